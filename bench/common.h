@@ -5,8 +5,8 @@
 #include <stdint.h>
 
 /* A build with other limits has its header before this one. */
-#ifdef REGISTRY_MOST_CPUS
-enum { MOST_THREADS = REGISTRY_MOST_CPUS, MOST_ENTRIES = REGISTRY_MOST_SLOTS };
+#ifdef KUPALDIZ_MOST_CPUS
+enum { MOST_THREADS = KUPALDIZ_MOST_CPUS, MOST_ENTRIES = KUPALDIZ_MOST_SLOTS };
 #else
 enum { MOST_THREADS = 64, MOST_ENTRIES = 255 };
 #endif

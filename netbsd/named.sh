@@ -1,6 +1,6 @@
 #!/bin/sh
 # Writes the headers of include/sys that only give a header of include/kupaldiz the names that the pages include. One that is there stays. And of kupaldiz
-# names.h, from netbsd.map, places.h, from the list below, and registry_limits.h, which is registry.h's own. Git keeps none of them.
+# names.h, from netbsd.map, and places.h, from the list below. Git keeps none of them.
 cd "$(dirname "$0")/include/sys" || exit
 while read -r header names; do
     for name in $names; do
@@ -11,7 +11,7 @@ while read -r header names; do
     done
 done <<'NAMES'
 cpu cpu lwp
-kernel evcnt kernel kthread module proc
+kernel evcnt kernel kthread module once proc
 localcount localcount
 locks condvar mutex rwlock
 memory kmem percpu pool
@@ -28,10 +28,6 @@ is_made() {
 }
 
 cd ../kupaldiz 2>/dev/null || exit
-for limits in ../../../include/registry_limits.h ../../../crates/registry_c/include/registry_limits.h; do
-    [ ! -f "$limits" ] || is_made registry_limits.h "$limits" || cp "$limits" registry_limits.h
-done
-
 # By header: the calls that note a place. Their bodies begin with begin_call.
 write_places() {
     printf '/* places.h - macros of the names of a header'"'"'s calls, which note where each is made */\n#ifndef KUPALDIZ_WITHOUT_PLACES\n'
@@ -47,7 +43,8 @@ write_places() {
 
 is_made places.h ../../named.sh || { write_places >"places.$$" && mv "places.$$" places.h; } <<'PLACED'
 cpu kupaldiz_bind kupaldiz_unbind curlwp_bindx kpreempt_enable
-kernel panic kpause kthread_exit kthread_join copyin copyout
+kernel panic kpause kthread_exit kthread_join copyin copyout tsleep mtsleep wakeup kupaldiz_kernel_lock kupaldiz_kernel_unlock kupaldiz_set_hz
+kernel kupaldiz_run_once
 localcount localcount_init localcount_fini localcount_drain localcount_acquire localcount_release
 locks mutex_destroy mutex_enter mutex_exit mutex_tryenter mutex_spin_enter mutex_spin_exit mutex_obj_free cv_destroy cv_wait cv_wait_sig cv_timedwait
 locks cv_timedwait_sig cv_signal cv_broadcast rw_destroy rw_enter rw_tryenter rw_exit

@@ -26,7 +26,7 @@ HEADERS = {
     "kernel": (["sys/systm.h", "sys/kthread.h", "sys/proc.h", "sys/module.h", "sys/evcnt.h"], "assertions, panic(9), kthread(9), kpause(9), copy(9)"),
 }
 # Headers without a page: what each of the others includes.
-UNPAGED = {"names", "places", "registry_limits", "sys_types"}
+UNPAGED = {"names", "places", "sys_types"}
 # The page that isn't made from a header, and where it shows a program.
 OVERVIEW = PAGES / "kupaldiz_netbsd.7"
 SHOWN = re.compile(r'(?<=^\.\\" netbsd/)(\S+)(\n\.Bd -literal\n).*?(?=^\.Ed$)', re.M | re.S)
@@ -34,7 +34,7 @@ COMMENT = re.compile(r"/\*(.*?)\*/", re.S)
 PROTOTYPE = re.compile(r"^(?:static inline )?((?:[a-z_0-9]+ )+\**)([a-z_0-9]+)\((.*?)\)(?: __attribute__.*)?(?:;| \{.*)?$")
 MACRO = re.compile(r"^#define ([A-Za-z_0-9]+)(?:\((.*?)\))?")
 # What stands before a parenthesis and is no call.
-NO_CALLS = {"__attribute__", "KUPALDIZ_NAMED"}
+NO_CALLS = {"__attribute__", "KUPALDIZ_BUILT_FOR"}
 TITLES = re.compile(r"([A-Za-z_0-9]+(?:, [A-Za-z_0-9]+)*) - ")
 
 

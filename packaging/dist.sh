@@ -28,9 +28,9 @@ first() {
 # The archive of a processor, if there is one.
 archive_of() {
     if [ "$1" = x86_64 ]; then
-        first "archive/$1/libregistry.a" out/libregistry.a
+        first "archive/$1/libkupaldiz_proved.a" out/libkupaldiz_proved.a
     else
-        first "archive/$1/libregistry.a" "out/$1/libregistry.a"
+        first "archive/$1/libkupaldiz_proved.a" "out/$1/libkupaldiz_proved.a"
     fi
 }
 
@@ -44,13 +44,14 @@ remedy() {
 
 # lay_archive PROCESSOR TO: its archive with the record, and the program.
 lay_archive() {
-    local archive to=$2/archive/$1 program
+    local archive record to=$2/archive/$1 program
     archive=$(archive_of "$1")
     [ -n "$archive" ] || return 0
-    [ -f "${archive%.a}.proved" ] || refuse "there is no ${archive%.a}.proved, the record of the archive's proof: $(remedy "$1") writes it"
+    record=${archive%_proved.a}.proved
+    [ -f "$record" ] || refuse "there is no $record, the record of the archive's proof: $(remedy "$1") writes it"
     mkdir -p "$to"
-    cp "$archive" "${archive%.a}.proved" "$to"
-    cp "$(first "${archive%/*}"/registry_limits.h {include,crates/registry_c/include}/registry_limits.h)" "$to"
+    cp "$archive" "$record" "$to"
+    cp "$(first "${archive%/*}"/kupaldiz_limits.h {include,crates/registry_c/include}/kupaldiz_limits.h)" "$to"
     program=$(first archive/x86_64/registry_run crates/registry_run/out/registry_run)
     if [ "$1" = x86_64 ] && [ -n "$program" ]; then
         cp "$program" "$to/registry_run"
@@ -90,10 +91,10 @@ lay() {
     rm -rf "$to/packaging/debian"
     cp -r "$(first debian packaging/debian)" "$to/debian"
     cp packaging/INSTALL.md "$to/README.md"
-    cp docs/C.md "$to/docs"
+    cp -r docs/C.md docs/ERRORS.md docs/TUTORIAL-C.md docs/tutorial "$to/docs"
     cp -r "$(first include crates/registry_c/include)" "$to/include"
     mkdir "$to/rust"
-    cp -rL rust/Cargo.toml rust/README.md rust/build.rs rust/registry_limits.h rust/src rust/examples rust/tests "$to/rust"
+    cp -rL rust/Cargo.toml rust/README.md rust/build.rs rust/kupaldiz_limits.h rust/src rust/examples rust/tests "$to/rust"
     lay_archive x86_64 "$to"
     lay_archive aarch64 "$to"
     [ ! -f "$to/debian/changelog.in" ] || fill "$to/debian/changelog"
@@ -106,7 +107,7 @@ lay() {
 }
 
 need_archive() {
-    [ -n "$(archive_of x86_64)" ] || refuse "there is no out/libregistry.a: $(remedy x86_64) proves and builds it, with the Rattle kit"
+    [ -n "$(archive_of x86_64)" ] || refuse "there is no out/libkupaldiz_proved.a: $(remedy x86_64) proves and builds it, with the Rattle kit"
 }
 
 # In one step: whoever looks finds the whole source, or the whole package.

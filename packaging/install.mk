@@ -1,6 +1,6 @@
-# The libraries that are installed: `make install PREFIX=.. DESTDIR=..` and `make uninstall` with the same words. libkupaldiz is the archive of the
-# registry together with waiting.c, libkupaldiz_check the checking build's part, libkupaldiz_netbsd the manual pages' own names; what is built lies in out/. The version stands in
-# registry.h alone.
+# The libraries that are installed: `make install PREFIX=.. DESTDIR=..` and `make uninstall` with the same words. libkupaldiz is the proved archive together
+# with the modules of kupaldiz_waiting.h, libkupaldiz_check the checking build's part, libkupaldiz_netbsd the manual pages' own names; what is built lies in
+# out/. The version stands in kupaldiz.h alone.
 
 PREFIX = /usr/local
 DESTDIR =
@@ -9,10 +9,8 @@ INCLUDEDIR = $(PREFIX)/include
 MANDIR = $(PREFIX)/share/man
 DOCDIR = $(PREFIX)/share/doc/kupaldiz
 EXAMPLESDIR = $(DOCDIR)/examples
-# What the .pc files say of the prefix. A release that is unpacked anywhere says '$${pcfiledir}/../..', and gives RUNPATH='$$ORIGIN', by which
-# libkupaldiz_netbsd finds libkupaldiz beside it.
+# What the .pc files say of the prefix. A release that is unpacked anywhere says '$${pcfiledir}/../..'.
 PC_PREFIX = $(PREFIX)
-RUNPATH =
 # What follows the 3 in the file's name of each page that leads to another one, as panic.3kupaldiz: no other package has that file.
 MANSUFFIX = kupaldiz
 # The licence, as SPDX names it. It is the owner's to choose: until then it is empty, and whoever makes a release is told so.
@@ -33,18 +31,22 @@ override PREFIX := $(call escaped,$(PREFIX))
 PKGCONFIGDIR = $(LIBDIR)/pkgconfig
 CMAKEDIR = $(LIBDIR)/cmake/kupaldiz
 
-version_part = $(shell sed -n 's/^\#define REGISTRY_VERSION_$(1)[[:blank:]]*//p' $(HEADER)/registry.h)
+version_part = $(shell sed -n 's/^\#define KUPALDIZ_VERSION_$(1)[[:blank:]]*//p' $(HEADER)/kupaldiz.h)
 MAJOR := $(call version_part,MAJOR)
 MINOR := $(call version_part,MINOR)
 VERSION := $(MAJOR).$(MINOR).$(call version_part,PATCH)
 # A minor version below 1.0 may change structs: it is in the sonames.
 ABI := $(MAJOR)$(if $(filter 0,$(MAJOR)),.$(MINOR))
 # The shared libraries of a build with other CPUs or slots have these in their names, as libkupaldiz-128x255.so.0.1: no program for another build starts with them.
-BUILD := $(shell sed -n 's/^\#define REGISTRY_BUILD[[:blank:]]*"\(.*\)"/\1/p' $(HEADER)/registry_limits.h)
+BUILD := $(shell sed -n 's/^\#define KUPALDIZ_BUILD[[:blank:]]*"\(.*\)"/\1/p' $(HEADER)/kupaldiz_limits.h)
 SONAME = libkupaldiz$(BUILD).so.$(ABI)
 SHARED = libkupaldiz$(BUILD).so.$(VERSION)
-NETBSD_SONAME = libkupaldiz_netbsd$(BUILD).so.$(ABI)
-NETBSD_SHARED = libkupaldiz_netbsd$(BUILD).so.$(VERSION)
+# The layer isn't built over the registry, and has none of its limits.
+NETBSD_SONAME = libkupaldiz_netbsd.so.$(ABI)
+NETBSD_SHARED = libkupaldiz_netbsd.so.$(VERSION)
+
+# What is installed beside the proved face, in the folder of headers itself. The pages' names have a folder of their own.
+C_HEADERS = kupaldiz_waiting.h kupaldiz_check.h kupaldiz_tsan.h
 
 # The headers of the pages' names: those that the pages name, in sys and net, and what these are made of. What the layer is built from.
 NETBSD_FOLDERS = kupaldiz sys net
@@ -55,12 +57,12 @@ NETBSD_OBJECTS = $(patsubst netbsd/src/%.c,$(OUT)/installed-netbsd/%.o,$(wildcar
 pages:
 	$(if $(wildcard tools/header-pages.py),tools/header-pages.py make && netbsd/pages.py write)
 
-# registry(3) and registry_waiting(3), and the calls that each names at its head, each of which gets a page that leads there.
-PAGES = registry registry_waiting
-named_by = $(filter-out $(1),$(shell sed -n 's/^\.Nm \(registry_[a-z_]*\).*/\1/p' man/$(1).3 | sort -u))
+# kupaldiz(3) and kupaldiz_waiting(3), and the calls that each names at its head, each of which gets a page that leads there.
+PAGES = kupaldiz kupaldiz_waiting
+named_by = $(filter-out $(1),$(shell sed -n 's/^\.Nm \(kupaldiz_[a-z_]*\).*/\1/p' man/$(1).3 | sort -u))
 
 # The pages of the pages' names: each call that one of them names gets a page that leads there, except kupaldiz_cpu, whose name a page has.
-NETBSD_PAGES = $(patsubst man/%.3,%,$(shell ls man/kupaldiz_*.3))
+NETBSD_PAGES = $(filter-out $(PAGES),$(patsubst man/%.3,%,$(shell ls man/kupaldiz_*.3)))
 netbsd_named_by = $(filter-out $(1),$(shell sed -n 's/^\.Nm \([A-Za-z_0-9]*\).*/\1/p' man/$(1).3 | sort -u))
 
 # What a library is compiled and linked with: no function has a frame above a page. A library of one object is joined without the compiler's link-time steps.
@@ -69,20 +71,29 @@ LINKED = $(filter-out -flto%,$(CFLAGS)) $(LDFLAGS) -shared $(LINK_HARDENING) -Wl
 
 library: $(OUT)/libkupaldiz.a $(OUT)/$(SHARED) $(OUT)/libkupaldiz_check.a $(OUT)/libkupaldiz_netbsd.a $(OUT)/$(NETBSD_SHARED)
 
-$(OUT)/waiting.o: c/src/waiting.c c/include/waiting.h $(FACE) packaging/places.mk packaging/install.mk | $(OUT)
+WAITING_OBJECTS = $(patsubst c/src/waiting/%.c,$(OUT)/installed-waiting/%.o,$(wildcard c/src/waiting/*.c))
+CHECKED_OBJECTS = $(WAITING_OBJECTS:$(OUT)/installed-waiting/%=$(OUT)/installed-check/%)
+WAITING_MADE_OF = $(wildcard c/src/waiting/*.h) c/include/kupaldiz_waiting.h $(FACE) packaging/places.mk packaging/install.mk
+
+$(WAITING_OBJECTS): $(OUT)/installed-waiting/%.o: c/src/waiting/%.c $(WAITING_MADE_OF) | $(OUT)
+	mkdir -p $(@D)
 	$(CC) $(COMPILED) -Ic/include -c -o $@ $<
 
-$(OUT)/libkupaldiz.a: $(ARCHIVE) $(OUT)/waiting.o
+$(OUT)/libkupaldiz.a: $(ARCHIVE) $(WAITING_OBJECTS)
 	rm -rf $@ $(OUT)/installed-archive
 	mkdir -p $(OUT)/installed-archive
 	cd $(OUT)/installed-archive && $(AR) x $(if $(filter /%,$(ARCHIVE)),$(ARCHIVE),"$$OLDPWD"/$(ARCHIVE))
-	$(AR) rcsD $@ $(OUT)/installed-archive/*.o $(OUT)/waiting.o
+	$(AR) rcsD $@ $(OUT)/installed-archive/*.o $(WAITING_OBJECTS)
 
-# The calls that wait are in it once more: these are told, too.
-$(OUT)/checked-part-%.o: c/src/%.c c/include/waiting.h c/include/registry_check.h $(FACE) packaging/places.mk packaging/install.mk | $(OUT)
-	$(CC) $(COMPILED) -DREGISTRY_CHECK -Ic/include -c -o $@ $<
+# The calls that wait are in it once more, by names of their own: these are told, too.
+$(CHECKED_OBJECTS): $(OUT)/installed-check/%.o: c/src/waiting/%.c
+$(OUT)/installed-check/check.o: c/src/check.c
+$(OUT)/installed-check/check.o: c/src/records.h
+$(CHECKED_OBJECTS) $(OUT)/installed-check/check.o: $(MADE_OF_CALLS) $(WAITING_MADE_OF) | $(OUT)
+	mkdir -p $(@D)
+	$(CC) $(COMPILED) -DKUPALDIZ_CHECK -Ic/include -c -o $@ $(filter %.c,$^)
 
-$(OUT)/libkupaldiz_check.a: $(OUT)/checked-part-check.o $(OUT)/checked-part-waiting.o
+$(OUT)/libkupaldiz_check.a: $(OUT)/installed-check/check.o $(CHECKED_OBJECTS)
 	rm -f $@
 	$(AR) rcsD $@ $^
 
@@ -91,7 +102,7 @@ $(OUT)/$(SHARED): $(OUT)/libkupaldiz.a packaging/kupaldiz.map packaging/install.
 	$(CC) $(LINKED) -o $@ -Wl,-soname,$(SONAME) -Wl,--version-script=packaging/kupaldiz.map \
 	    -Wl,--whole-archive $(OUT)/libkupaldiz.a -Wl,--no-whole-archive -pthread
 
-$(NETBSD_OBJECTS): $(OUT)/installed-netbsd/%.o: netbsd/src/%.c netbsd/src/layer.h $(addprefix netbsd/include/,$(NETBSD_HEADERS)) $(FACE) packaging/places.mk packaging/install.mk
+$(NETBSD_OBJECTS): $(OUT)/installed-netbsd/%.o: netbsd/src/%.c netbsd/src/layer.h $(addprefix netbsd/include/,$(NETBSD_HEADERS)) packaging/places.mk packaging/install.mk
 	mkdir -p $(OUT)/installed-netbsd
 	$(CC) $(COMPILED) -D_GNU_SOURCE -Inetbsd/include -c -o $@ $<
 
@@ -102,17 +113,15 @@ $(OUT)/libkupaldiz_netbsd.a: $(NETBSD_OBJECTS)
 	$(OBJCOPY) --wildcard --keep-global-symbol='kupaldiz_*' $(OUT)/kupaldiz_netbsd.o
 	$(AR) rcsD $@ $(OUT)/kupaldiz_netbsd.o
 
-$(OUT)/$(NETBSD_SHARED): $(OUT)/libkupaldiz_netbsd.a $(OUT)/$(SHARED) netbsd/netbsd.map packaging/install.mk
-	$(CC) $(LINKED) $(if $(RUNPATH),-Wl$(comma)-rpath$(comma)'$(RUNPATH)') -o $@ -Wl,-soname,$(NETBSD_SONAME) -Wl,--version-script=netbsd/netbsd.map \
-	    -Wl,--whole-archive $(OUT)/libkupaldiz_netbsd.a -Wl,--no-whole-archive $(OUT)/$(SHARED) -pthread
-
-comma := ,
+$(OUT)/$(NETBSD_SHARED): $(OUT)/libkupaldiz_netbsd.a netbsd/netbsd.map packaging/install.mk
+	$(CC) $(LINKED) -o $@ -Wl,-soname,$(NETBSD_SONAME) -Wl,--version-script=netbsd/netbsd.map \
+	    -Wl,--whole-archive $(OUT)/libkupaldiz_netbsd.a -Wl,--no-whole-archive -pthread
 
 # The public names: those of the headers, of the maps, and of what was built.
 symbols: library
 	NM=$(CROSS)nm packaging/symbols.sh $(HEADER) $(OUT) '$(BUILD)' $(VERSION)
 
-install: library pages
+install: library pages install-examples
 	$(INSTALL) -d $(DESTDIR)$(PKGCONFIGDIR) $(DESTDIR)$(CMAKEDIR) $(NETBSD_FOLDERS:%=$(DESTDIR)$(INCLUDEDIR)/kupaldiz/netbsd/%) \
 	    $(DESTDIR)$(MANDIR)/man3 $(DESTDIR)$(MANDIR)/man7 $(DESTDIR)$(DOCDIR)
 	$(INSTALL) -m 644 $(OUT)/libkupaldiz.a $(DESTDIR)$(LIBDIR)/libkupaldiz.a
@@ -120,21 +129,20 @@ install: library pages
 	$(INSTALL) -m 755 $(OUT)/$(SHARED) $(DESTDIR)$(LIBDIR)/$(SHARED)
 	ln -sf $(SHARED) $(DESTDIR)$(LIBDIR)/$(SONAME)
 	ln -sf $(SONAME) $(DESTDIR)$(LIBDIR)/libkupaldiz.so
-	$(INSTALL) -m 644 $(FACE) c/include/registry_check.h $(DESTDIR)$(INCLUDEDIR)/kupaldiz/
-	$(INSTALL) -m 644 c/include/waiting.h $(DESTDIR)$(INCLUDEDIR)/kupaldiz/registry_waiting.h
+	$(INSTALL) -m 644 $(FACE) $(C_HEADERS:%=c/include/%) $(DESTDIR)$(INCLUDEDIR)/
 	$(INSTALL) -m 644 $(OUT)/libkupaldiz_netbsd.a $(DESTDIR)$(LIBDIR)/libkupaldiz_netbsd.a
 	$(INSTALL) -m 755 $(OUT)/$(NETBSD_SHARED) $(DESTDIR)$(LIBDIR)/$(NETBSD_SHARED)
 	ln -sf $(NETBSD_SHARED) $(DESTDIR)$(LIBDIR)/$(NETBSD_SONAME)
 	ln -sf $(NETBSD_SONAME) $(DESTDIR)$(LIBDIR)/libkupaldiz_netbsd.so
 	for header in $(NETBSD_HEADERS); do $(INSTALL) -m 644 netbsd/include/$$header $(DESTDIR)$(INCLUDEDIR)/kupaldiz/netbsd/$$header; done
-	$(INSTALL) -m 644 $(HEADER)/registry_limits.h $(DESTDIR)$(INCLUDEDIR)/kupaldiz/netbsd/kupaldiz/registry_limits.h
 	$(call pc_of,kupaldiz)
+	$(call pc_of,kupaldiz-check)
 	$(call pc_of,kupaldiz-netbsd)
 	$(filled) -e "s|@TO_INCLUDE@|$$(realpath -m --relative-to=$(CMAKEDIR) $(INCLUDEDIR))|" packaging/kupaldizConfig.cmake.in >$(DESTDIR)$(CMAKEDIR)/kupaldizConfig.cmake
 	$(filled) packaging/kupaldizConfigVersion.cmake.in >$(DESTDIR)$(CMAKEDIR)/kupaldizConfigVersion.cmake
 	$(foreach page,$(PAGES),$(call install_page,$(page),$(call named_by,$(page))))
 	$(foreach page,$(NETBSD_PAGES),$(call install_page,$(page),$(call netbsd_named_by,$(page))))
-	$(INSTALL) -m 644 man/registry.7 man/kupaldiz_netbsd.7 $(DESTDIR)$(MANDIR)/man7/
+	$(INSTALL) -m 644 man/kupaldiz.7 man/kupaldiz_netbsd.7 $(DESTDIR)$(MANDIR)/man7/
 	$(INSTALL) -m 644 packaging/VERSIONS.md $(DESTDIR)$(DOCDIR)/
 
 # In a .pc file a blank is written as in a shell, and sed takes a \ of its own. Whatever umask there is, everyone may read what is installed.
@@ -146,16 +154,18 @@ filled = umask 022; sed -e 's|@LIBDIR@|$(call in_sed,$(LIBDIR))|' -e 's|@INCLUDE
 # The .pc file of a library: what it says, and the compiler's flags.
 SAYS_kupaldiz = Table of names whose readers take no lock, and whose removals name the holder
 FLAGS_kupaldiz = -I$${includedir}
+SAYS_kupaldiz-check = kupaldiz, where each misuse of a call is told
+FLAGS_kupaldiz-check = -DKUPALDIZ_CHECK
 SAYS_kupaldiz-netbsd = pserialize(9), psref(9) and localcount(9) for threads, under their own names
 FLAGS_kupaldiz-netbsd = -I$${includedir}/kupaldiz/netbsd
 pc_of = $(filled) -e 's|@NAME@|$(1)|' -e 's|@SAYS@|$(SAYS_$(1))|' -e 's|@FLAGS@|$(FLAGS_$(1))|' -e 's|@LIBRARY@|$(subst -,_,$(1))|' \
-    $(if $(filter kupaldiz,$(1)),-e '/^Requires/d') packaging/kupaldiz.pc.in >$(DESTDIR)$(PKGCONFIGDIR)/$(1).pc
+    $(if $(filter %-check,$(1)),,-e '/^Requires/d') packaging/kupaldiz.pc.in >$(DESTDIR)$(PKGCONFIGDIR)/$(1).pc
 
 # What an older version with the same soname has left: nothing asks for it by its whole number.
 install: without_older
 without_older: library
 	rm -f $(DESTDIR)$(LIBDIR)/$(SONAME).* $(DESTDIR)$(LIBDIR)/$(NETBSD_SONAME).*
-	rm -f $(DESTDIR)$(PKGCONFIGDIR)/kupaldiz.pc $(DESTDIR)$(PKGCONFIGDIR)/kupaldiz-netbsd.pc
+	rm -f $(addprefix $(DESTDIR)$(PKGCONFIGDIR)/,kupaldiz.pc kupaldiz-check.pc kupaldiz-netbsd.pc)
 
 # install_page PAGE,CALLS: a page, and for each call that it names a page of one line that leads to it.
 define install_page
@@ -173,15 +183,16 @@ installcheck:
 
 # Takes away what install has put there, and the folders that are the libraries' alone.
 uninstall: pages
-	rm -f $(addprefix $(DESTDIR)$(LIBDIR)/,libkupaldiz.a libkupaldiz_check.a $(SHARED) $(SONAME) libkupaldiz.so pkgconfig/kupaldiz.pc)
+	rm -f $(addprefix $(DESTDIR)$(LIBDIR)/,libkupaldiz.a libkupaldiz_check.a $(SHARED) $(SONAME) libkupaldiz.so pkgconfig/kupaldiz.pc pkgconfig/kupaldiz-check.pc)
 	rm -f $(addprefix $(DESTDIR)$(LIBDIR)/,libkupaldiz_netbsd.a $(NETBSD_SHARED) $(NETBSD_SONAME) libkupaldiz_netbsd.so pkgconfig/kupaldiz-netbsd.pc)
 	rm -f $(addprefix $(DESTDIR)$(CMAKEDIR)/,kupaldizConfig.cmake kupaldizConfigVersion.cmake)
 	rm -f $(addprefix $(DESTDIR)$(INCLUDEDIR)/kupaldiz/netbsd/,$(NETBSD_HEADERS))
-	rm -f $(addprefix $(DESTDIR)$(INCLUDEDIR)/kupaldiz/,registry.h registry_limits.h registry_waiting.h registry_check.h)
+	rm -f $(addprefix $(DESTDIR)$(INCLUDEDIR)/,kupaldiz.h kupaldiz_limits.h $(C_HEADERS))
 	rm -f $(addprefix $(DESTDIR)$(MANDIR)/man3/,$(foreach page,$(PAGES),$(page).3 $(addsuffix .3$(MANSUFFIX),$(call named_by,$(page)))))
 	rm -f $(addprefix $(DESTDIR)$(MANDIR)/man3/,$(foreach page,$(NETBSD_PAGES),$(page).3 $(addsuffix .3$(MANSUFFIX),$(call netbsd_named_by,$(page)))))
-	rm -f $(addprefix $(DESTDIR)$(MANDIR)/man7/,registry.7 kupaldiz_netbsd.7)
+	rm -f $(addprefix $(DESTDIR)$(MANDIR)/man7/,kupaldiz.7 kupaldiz_netbsd.7)
 	rm -f $(DESTDIR)$(DOCDIR)/VERSIONS.md
+	packaging/examples.sh --remove $(DESTDIR)$(EXAMPLESDIR)
 	-rmdir $(NETBSD_FOLDERS:%=$(DESTDIR)$(INCLUDEDIR)/kupaldiz/netbsd/%) $(DESTDIR)$(INCLUDEDIR)/kupaldiz/netbsd $(DESTDIR)$(INCLUDEDIR)/kupaldiz \
 	    $(DESTDIR)$(CMAKEDIR) $(DESTDIR)$(DOCDIR)
 

@@ -28,13 +28,12 @@ room=$(mktemp -d)
 trap 'rm -rf "$room"' EXIT
 passed=0 failed=0
 
-# try COMPILER MODULE PROGRAM LINE LINK WORDS..: builds the program with what pkg-config says for these words, and runs it: it prints the line. A cross
-# compiler's linker doesn't read LD_LIBRARY_PATH, and is told where libkupaldiz is that libkupaldiz_netbsd needs.
+# try COMPILER MODULE PROGRAM LINE LINK WORDS..: builds the program with what pkg-config says for these words, and runs it: it prints the line.
 try() {
     local compiler=$1 module=$2 program=$3 line=$4 link=$5 words said
     shift 5
     if words=$(pkg-config --cflags "$module") && words+=" $(pkg-config "$@" "$module")" &&
-        eval "$compiler -Wall -Wextra c/tests/$program.c -x none -o \"\$room/$program\" $link -Wl,-rpath-link,\"\$stage\$libdir\" $words" &&
+        eval "$compiler -Wall -Wextra c/tests/$program.c -x none -o \"\$room/$program\" $link $words" &&
         said=$($RUN "$room/$program") && [ "$said" = "$line" ]; then
         passed=$((passed + 1))
         echo "ok      $module, $*: $said"
@@ -49,7 +48,7 @@ try_all() {
     local link
     for link in "" "-static --static"; do
         # shellcheck disable=SC2086
-        try "$CC -std=c99 -x c" "$1" "$2" "C, $3" "${link% *}" ${link#-static} --libs
+        try "$CC -std=c11 -x c" "$1" "$2" "C, $3" "${link% *}" ${link#-static} --libs
         if [ "$CC" = gcc ] && command -v g++ >/dev/null; then
             # shellcheck disable=SC2086
             try "g++ -std=c++11 -x c++" "$1" "$2" "C++, $3" "${link% *}" ${link#-static} --libs
@@ -58,11 +57,16 @@ try_all() {
 }
 
 try_all kupaldiz installed "version $version"
-try "$CC -std=c99 -DREGISTRY_CHECK -x c" kupaldiz installed "C, version $version" -lkupaldiz_check --libs
-try "$CC -std=c99 -DREGISTRY_CHECK -x c" kupaldiz installed "C, version $version" "-static -lkupaldiz_check" --static --libs
+# The checking build, with its library before and behind the other one.
+for link in "" -static; do
+    # shellcheck disable=SC2086
+    try "$CC -std=c11 -x c" kupaldiz-check installed "C, version $version" "$link" ${link:+--static} --libs
+    # shellcheck disable=SC2086
+    try "$CC -std=c11 -DKUPALDIZ_CHECK -x c" kupaldiz installed "C, version $version" "$link -lkupaldiz -lkupaldiz_check" ${link:+--static} --libs
+done
 try_all kupaldiz-netbsd installed_netbsd "by the pages' names"
-if [ -f "$stage$libdir/pkgconfig/kupaldiz-bench.pc" ]; then
-    try_all kupaldiz-bench installed_bench "in every order"
+if [ -f "$stage$libdir/pkgconfig/kupaldiz-explorer.pc" ]; then
+    try_all kupaldiz-explorer installed_explorer "in every order"
 fi
 echo "$passed passed, $failed failed"
 [ "$failed" -eq 0 ]

@@ -1,7 +1,7 @@
 #!/usr/bin/env bash
 # Compiles a program for other limits than the archive was built for, one limit after the other, and for another version: other-limits.sh HEADERS ARCHIVE.
 # With other CPUs or slots, or another version, it doesn't link, and doesn't start with a shared library of the archive: what is said then names these. With
-# another of the rest registry_open refuses it. CC is
+# another of the rest kupaldiz_open refuses it. CC is
 # the compiler, RUN what runs a program of another processor. `make check` calls it. The last line is 'N passed, M failed'.
 set -uo pipefail
 if [ $# -ne 2 ]; then
@@ -12,7 +12,7 @@ headers=$(realpath "$1") archive=$(realpath "$2")
 cd "$(dirname "$0")/.." || exit
 room=$(mktemp -d)
 trap 'rm -rf "$room"' EXIT
-passed=0 failed=0 refused='78: the program was compiled for other limits than the library has'
+passed=0 failed=0 refused="78: the program was compiled for other limits than the library's"
 
 # check NAME COMMAND..: the command ends with status 0; else what it said is shown.
 check() {
@@ -30,23 +30,23 @@ check() {
 
 # What the header says of a limit.
 limit() {
-    sed -nE "s/^#define REGISTRY_MOST_$1[[:blank:]]+//p" "$headers/registry_limits.h"
+    sed -nE "s/^#define KUPALDIZ_MOST_$1[[:blank:]]+//p" "$headers/kupaldiz_limits.h"
 }
 
 # The name of the symbol of a build: so many CPUs and slots, and a version.
 named() {
-    echo "registry_for_$1_cpus_$2_slots_v${3:-$version}"
+    echo "kupaldiz_for_$1_cpus_$2_slots_v${3:-$version}"
 }
 
 # change FOLDER WORD TEXT: the text is what the header there says of the word.
 change() {
-    sed -i -E "s/^(#define REGISTRY_$2[[:blank:]]+).*/\\1$3/" "$1/registry_limits.h"
+    sed -i -E "s/^(#define KUPALDIZ_$2[[:blank:]]+).*/\\1$3/" "$1/kupaldiz_limits.h"
 }
 
 # Headers of another build, as tools/limits.py would make them: the limit, one more.
 other_headers() {
     local folder=$room/$1 more
-    mkdir -p "$folder" && cp "$headers"/registry{,_limits}.h "$folder" || return
+    mkdir -p "$folder" && cp "$headers"/kupaldiz{,_limits}.h "$folder" || return
     case $1 in
     same) return ;;
     VERSION) change "$folder" BUILT_FOR "$(named "$(limit CPUS)" "$(limit SLOTS)" 0_99)"; return ;;
@@ -60,22 +60,21 @@ other_headers() {
 
 # The name that a program compiled with these headers asks for.
 asked_for() {
-    sed -nE 's/^#define REGISTRY_BUILT_FOR[[:blank:]]+//p' "$room/$1/registry_limits.h"
+    sed -nE 's/^#define KUPALDIZ_BUILT_FOR[[:blank:]]+//p' "$room/$1/kupaldiz_limits.h"
 }
 
 program=$(cat <<'PROGRAM'
-#include "client.h"
+#include "example.h"
 
 int main(void)
 {
-	const struct registry_settings settings = {1, 1, 1, 1, 1, 1};
-	struct registry_keeper keeper = {0};
-	struct registry_cpu cpu = {0};
-	registry_answer answer = registry_open(&settings, &keeper, &cpu, 1);
-	printf("%u: %s\n", (unsigned)answer, registry_strerror(answer));
-	if (answer == REGISTRY_DONE)
-		DONE(registry_close(&cpu, 1, &keeper));
-	EXPECT(registry_close_cpu(&cpu) == REGISTRY_EMPTY_HANDLE && registry_close_keeper(&keeper) == REGISTRY_EMPTY_HANDLE);
+	const struct kupaldiz_settings settings = {1, 1, 1, 1, 1, 1};
+	struct kupaldiz_keeper keeper = {0};
+	struct kupaldiz_cpu cpu = {0};
+	enum kupaldiz_result result = kupaldiz_open(&settings, &keeper, &cpu, 1);
+	printf("%u: %s\n", (unsigned)result, kupaldiz_strerror(result));
+	check("close", kupaldiz_close(&keeper, &cpu, 1));
+	expect("nothing is open", keeper.at == NULL && cpu.at == NULL);
 	return 0;
 }
 PROGRAM
@@ -113,26 +112,26 @@ has_soname() {
 library() {
     local folder=$1
     shift
-    mkdir -p "$folder" && $CC -shared -fPIC -o "$folder/libregistry.so" -Wl,-soname,libregistry.so "$@" \
+    mkdir -p "$folder" && $CC -shared -fPIC -o "$folder/libkupaldiz_proved.so" -Wl,-soname,libkupaldiz_proved.so "$@" \
         -Wl,--whole-archive "$archive" -Wl,--no-whole-archive -pthread
 }
 
 # A program that was linked with a library of another build doesn't start with this one in its place: the loader names the limits.
 no_start() {
-    local stub='#include "registry.h"\nregistry_answer REGISTRY_BUILT_FOR(const struct registry_limits *limits) { return limits == NULL; }\n'
+    local stub='#include "kupaldiz.h"\nenum kupaldiz_result KUPALDIZ_BUILT_FOR(const struct kupaldiz_limits *limits) { return limits == NULL ? KUPALDIZ_NULL : KUPALDIZ_DONE; }\n'
     # shellcheck disable=SC2059
     other_headers "$1" && printf "$stub" >"$room/stub.c" && library "$room/$1/lib" -I"$room/$1" "$room/stub.c" && library "$room/lib" &&
-        built "$1" -Wl,-z,now -L"$room/$1/lib" -lregistry && LD_LIBRARY_PATH=$room/$1/lib "$room/$1/program" >/dev/null &&
+        built "$1" -Wl,-z,now -L"$room/$1/lib" -lkupaldiz_proved && LD_LIBRARY_PATH=$room/$1/lib "$room/$1/program" >/dev/null &&
         ! LD_LIBRARY_PATH=$room/lib "$room/$1/program" >"$room/started" 2>&1 && grep "undefined symbol: $(asked_for "$1")" "$room/started"
 }
 
 : "${CC:=gcc}" "${RUN:=}"
 # The major and the minor version of the header, or from 1 on the major one.
-version=$(sed -nE 's/^#define REGISTRY_VERSION_(MAJOR|MINOR)[[:blank:]]+//p' "$headers/registry.h" | paste -sd_ | sed -E 's/^([1-9][0-9]*)_.*/\1/')
+version=$(sed -nE 's/^#define KUPALDIZ_VERSION_(MAJOR|MINOR)[[:blank:]]+//p' "$headers/kupaldiz.h" | paste -sd_ | sed -E 's/^([1-9][0-9]*)_.*/\1/')
 check "the same limits: a registry is opened" says same '0: done'
 check "the symbol of this build is named by its limits and its version" [ "$(asked_for same)" = "$(named "$(limit CPUS)" "$(limit SLOTS)")" ]
 for limit in CHANGES SECTIONS COUNT DEPTH; do
-    check "other $limit: registry_open refuses it" says "$limit" "$refused"
+    check "other $limit: kupaldiz_open refuses it" says "$limit" "$refused"
 done
 for limit in CPUS SLOTS VERSION; do
     check "other $limit: it doesn't link, and the linker names both limits and the version" no_link "$limit"
@@ -140,6 +139,6 @@ for limit in CPUS SLOTS VERSION; do
     [ -n "$RUN" ] || check "other $limit: it doesn't start, and the loader names both limits and the version" no_start "$limit"
 done
 check "other CPUS: the shared library has another name" has_soname
-check "other CPUS under the name of this build: registry_open refuses it" forged
+check "other CPUS under the name of this build: kupaldiz_open refuses it" forged
 echo "$passed passed, $failed failed"
 [ "$failed" -eq 0 ]

@@ -25,29 +25,32 @@ OBJCOPY = $(CROSS)objcopy
 
 # In the repository the header is the crate's, and archives are what tools/build-archive.sh makes. A release's source has both in folders of its own.
 # LIMITS names the folder of an archive with other limits, which has the headers beside it: `make LIMITS=cpus-128` after `tools/build-archive.sh --cpus 128`.
-# Its limits come first in each file, since the layer has a link to the default's.
 LIMITS =
 OUT := $(TOP)out$(if $(filter-out x86_64,$(PROCESSOR)),/$(PROCESSOR))$(LIMITS:%=/%)
 HEADER := $(firstword $(if $(LIMITS),$(OUT)) $(wildcard $(TOP)include) $(TOP)crates/registry_c/include)
 # What is proved, in C: its calls, and the limits of its build.
-FACE = $(HEADER)/registry.h $(HEADER)/registry_limits.h
-ifneq ($(LIMITS),)
-override CPPFLAGS += -include $(HEADER)/registry_limits.h
-endif
-ARCHIVE := $(firstword $(wildcard $(TOP)archive/$(PROCESSOR)/libregistry.a) $(OUT)/libregistry.a)
+FACE = $(HEADER)/kupaldiz.h $(HEADER)/kupaldiz_limits.h
+ARCHIVE := $(firstword $(wildcard $(TOP)archive/$(PROCESSOR)/libkupaldiz_proved.a) $(OUT)/libkupaldiz_proved.a)
 
 # Headers of the pages' names that are made.
 $(shell $(TOP)netbsd/named.sh)
 
-# What the bench is made of: for explorer/install.mk, which installs it, and for its Makefile, which tests it.
-# A shadow stack knows nothing of a switch from stack to stack, so nothing says that the bench may run with one.
-BENCH_STRICT = -std=gnu11 -D_GNU_SOURCE -DKUPALDIZ_IN_BENCH $(filter-out -Wpedantic,$(WARNINGS)) -fcf-protection=none
+# What is made of each call of the headers. In a release it is.
+MADE_OF_CALLS = $(addprefix $(TOP)c/,include/kupaldiz_check.h include/kupaldiz_tsan.h src/texts.h src/checked.h)
+ifneq ($(wildcard $(TOP)tools/call-headers.py),)
+$(if $(shell find $(TOP)tools/call-headers.py $(TOP)tools/header-pages.py $(HEADER)/kupaldiz.h $(TOP)c/include/*.in $(TOP)c/include/kupaldiz_waiting.h \
+    -newer $(TOP)c/src/checked.h 2>&1),$(shell $(TOP)tools/call-headers.py make))
+endif
 
-# The layer's sources that the bench has something else for.
-BENCH_INSTEAD = lock softint_thread module_hook
+# What the explorer is made of: for explorer/install.mk, which installs it, and for its Makefile, which tests it.
+# A shadow stack knows nothing of a switch from stack to stack, so nothing says that the explorer may run with one.
+EXPLORER_STRICT = -std=gnu11 -D_GNU_SOURCE -DKUPALDIZ_IN_EXPLORER $(filter-out -Wpedantic,$(WARNINGS)) -fcf-protection=none
 
-# Writes, for each call of the layer that the bench wraps, its name for the linker and what it is called in the bench: layer_ and the call's own name.
-BENCH_WRAPPED = sed -n 's/^\(LAYER\|WRAPPED\|AROUND\|ANSWERED\)([^,]*, \([a-z_]*\),.*/\2 layer_\2/p' $^ | sed '/^kupaldiz_/!s/^/kupaldiz_/' >$@
+# The layer's sources that the explorer has something else for.
+EXPLORER_INSTEAD = lock softint_thread module_hook visits
+
+# Writes, for each call of the layer that the explorer wraps, its name for the linker and what it is called in the explorer: layer_ and the call's own name.
+EXPLORER_WRAPPED = sed -n 's/^\(LAYER\|WRAPPED\|AROUND\|ANSWERED\)([^,]*, \([a-z_]*\),.*/\2 layer_\2/p' $^ | sed '/^kupaldiz_/!s/^/kupaldiz_/' >$@
 
 # What hardens the libraries. Of CET it is the shadow stack: the archive's calls return where they were called from, but have no endbr64.
 HARDENING_x86_64 = -fcf-protection=full

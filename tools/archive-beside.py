@@ -1,5 +1,5 @@
 #!/usr/bin/env -S python3 -B
-"""Runs `rt ci`, and beside it proves and builds the archive for C, out/libregistry.a, proves its library for aarch64, and tries edits.
+"""Runs `rt ci`, and beside it proves and builds the archive for C, out/libkupaldiz_proved.a, proves its library for aarch64, and tries edits.
 
     tools/archive-beside.py rt ci
 
@@ -32,7 +32,7 @@ from parts import GIGABYTE, LAST_LINE, ROOT, ended, free_memory, guard, minutes,
 
 LIBRARY = "registry_c"
 OUT = ROOT / "out"
-ARCHIVE = OUT / "libregistry.a"
+ARCHIVE = OUT / "libkupaldiz_proved.a"
 # The processors that the library is proved for, and what names each to `rattle`. The first one's is built here.
 PROCESSORS = {"x86_64": (), "aarch64": ("--target", "aarch64-unknown-linux-gnu")}
 FIRST, *OTHERS = PROCESSORS

@@ -1,13 +1,13 @@
 #!/usr/bin/env bash
 # Proves and builds the static library of the C face, gives it unwind tables, and joins it with what is C of the archive into one object: the three functions
-# of the heap, and the few calls that are made of the others or tell the build. Only the calls of registry.h are seen from outside. That object alone is the
-# archive libregistry.a. Beside it lie libregistry.proved, the record of the proof, and the two headers that it was compiled with, registry.h and
-# registry_limits.h, which has its limits. A C program needs these, the archive and nothing else of the repository.
+# of the heap, and the calls that return constants. Only the calls of kupaldiz.h are seen from outside. That object alone is the
+# archive libkupaldiz_proved.a. Beside it lie libkupaldiz.proved, the record of the proof, and the two headers that it was compiled with, kupaldiz.h and
+# kupaldiz_limits.h, which has its limits. A C program needs these, the archive and nothing else of the repository.
 #
-#     tools/build-archive.sh                  proves and builds the library first: out/libregistry.a
+#     tools/build-archive.sh                  proves and builds the library first: out/libkupaldiz_proved.a
 #     tools/build-archive.sh LIBRARY LOG      takes libregistry_c.a as tools/archive-beside.py has proved and built it, and what the proof said
-#     tools/build-archive.sh --for PROCESSOR [LIBRARY LOG]     the same for that processor: out/PROCESSOR/libregistry.a
-#     tools/build-archive.sh [--cpus N] [--slots N] [..]      with so many of them, in digits or as 2^5: out/NAME/libregistry.a, where NAME says
+#     tools/build-archive.sh --for PROCESSOR [LIBRARY LOG]     the same for that processor: out/PROCESSOR/libkupaldiz_proved.a
+#     tools/build-archive.sh [--cpus N] [--slots N] [..]      with so many of them, in digits or as 2^5: out/NAME/libkupaldiz_proved.a, where NAME says
 #                                             them, as cpus-16-slots-64
 #
 # With other limits than the default's, all crates of the library are proved in a copy. A number out of its range ends in one line, and nothing is built.
@@ -70,28 +70,29 @@ tools/limits.py file "${chosen[@]}" >"$room/limits.rt"
 # The headers that a client of this archive includes, in one folder.
 mkdir "$room/include"
 cp crates/registry_c/include/*.h "$room/include"
-tools/limits.py header "$room/limits.rt" >"$room/include/registry_limits.h"
+tools/limits.py header "$room/limits.rt" >"$room/include/kupaldiz_limits.h"
 [ -n "$library" ] || prove
 (cd "$room" && ar x "$library")
 cp "$room/registry_c.o" "$room/compiled.o"
 tools/unwind-tables.py "$room/registry_c.o"
-# What is C of the archive, as objects: the functions of the heap, the calls of the header that are made of its others, and those that tell the build.
+# What is C of the archive, as objects: the functions of the heap, and the constants. What is made of the calls is made first, also for whoever compiles by hand.
+tools/call-headers.py make
 parts=$(tools/proof-record.py parts)
 for part in $parts; do
     "${tools}gcc" -std=c11 -O2 -fPIC -ffunction-sections -ffile-prefix-map="$PWD"=. -I"$room/include" -c -o "$room/$part.o" "c/src/$part.c"
 done
 # shellcheck disable=SC2086
 (cd "$room" && "${tools}ld" -r -o whole.o registry_c.o ${parts// /.o }.o)
-packaging/calls-of.sh "$room"/include/registry{,_limits}.h >"$room/calls"
-[ -s "$room/calls" ] || refuse "registry.h declares no call"
-"${tools}objcopy" --keep-global-symbols="$room/calls" "$room/whole.o" "$room/registry.o"
-(cd "$room" && "${tools}ar" rcsD libregistry.a registry.o)
-tools/proof-record.py write "$processor" "$room/limits.rt" "$log" "$room/compiled.o" "$room/registry.o" >"$room/libregistry.proved"
+packaging/calls-of.sh "$room"/include/kupaldiz{,_limits}.h >"$room/calls"
+[ -s "$room/calls" ] || refuse "kupaldiz.h declares no call"
+"${tools}objcopy" --keep-global-symbols="$room/calls" "$room/whole.o" "$room/kupaldiz.o"
+(cd "$room" && "${tools}ar" rcsD libkupaldiz_proved.a kupaldiz.o)
+tools/proof-record.py write "$processor" "$room/limits.rt" "$log" "$room/compiled.o" "$room/kupaldiz.o" >"$room/libkupaldiz.proved"
 # The archive comes last, in one step: whoever looks finds a whole archive with its record.
 mkdir -p "$out"
-rm -f "$out/libregistry.a"
+rm -f "$out/libkupaldiz_proved.a"
 cp "$room"/include/*.h "$out"
-mv "$room/libregistry.proved" "$out/libregistry.proved"
-mv "$room/libregistry.a" "$out/libregistry.a.new"
-mv "$out/libregistry.a.new" "$out/libregistry.a"
-echo "$out/libregistry.a, proved with $(sed -n 's/^limits: //p' "$out/libregistry.proved")"
+mv "$room/libkupaldiz.proved" "$out/libkupaldiz.proved"
+mv "$room/libkupaldiz_proved.a" "$out/libkupaldiz_proved.a.new"
+mv "$out/libkupaldiz_proved.a.new" "$out/libkupaldiz_proved.a"
+echo "$out/libkupaldiz_proved.a, proved with $(sed -n 's/^limits: //p' "$out/libkupaldiz.proved")"

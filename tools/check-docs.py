@@ -1,17 +1,20 @@
 #!/usr/bin/env -S python3 -B
-"""Finds what the documents name and the tree doesn't have: links to files and headings, and names in backquotes. Also tables that a line cuts off, and
-turns of phrase that readers stumble over (BANNED), and our private words on a page for users (PRIVATE).
+"""Finds what the documents name and the tree doesn't have: links to files and headings, and names in
+backquotes. Also tables that a line cuts off, links whose text doesn't say where they lead, lines
+that are too long, our private words on a page for users (PRIVATE), and numbers that differ from
+docs/facts (tools/facts.py).
 
     tools/check-docs.py            says what is wrong, and ends with 'N passed, M failed'
 
-For each document there is a check of its links and one of its names, and for a page that USERS or EXPLAINING lists, a header or a manual page too, one of
-its phrases. A name counts if it is a word of some file that isn't a document, or of a path, or if FOREIGN lists it with its origin.
+A name counts if it is a word of some file that isn't a document, or of a path, or if FOREIGN lists
+it with its origin.
 """
 import re
 import subprocess
 import sys
 from fnmatch import fnmatch
 
+import facts
 from parts import ROOT, counted
 
 # Words in backquotes that no file of this repository has, by where they come from.
@@ -20,12 +23,14 @@ FOREIGN = {
     "Linux": """PERCPU_COUNT_BIAS kfree list_add_rcu list_del_rcu list_for_each_entry_rcu migrate_disable percpu_ref percpu_ref_exit
         kfree_rcu percpu_ref_get percpu_ref_kill percpu_ref_put poll_state_synchronize_rcu rcu_barrier srcu_read_lock start_poll_synchronize_rcu
         synchronize_srcu""",
-    "liburcu": "cds_list_add_rcu cds_list_del_rcu cds_list_for_each_entry_rcu defer_destroy urcu_ref",
+    "liburcu": """cds_list_add_rcu cds_list_del_rcu cds_list_for_each_entry_rcu defer_destroy rcu_read_lock rcu_register_thread synchronize_rcu
+        urcu_ref""",
     "ck": "ck_epoch_section_2",
     "arc-swap": "load_full",
     "crossbeam": "Collector register",
     "Debian": "libck",
     "Rust": "HashMap RwLock",
+    "earlier versions": "poll_lend",
     "libc and os of the kit": "chdir getcwd lseek rattle_arg rattle_env rattle_env_at rattle_errno rattle_set_errno",
     "other provers": "admit assume axiom sorry",
     "x86-64": "cmpxchg xadd",
@@ -33,42 +38,34 @@ FOREIGN = {
 }
 FOREIGN_WORDS = {word for words in FOREIGN.values() for word in words.split()}
 
+# The page that says what was called otherwise, and what names were then.
+EARLIER = ("packaging/VERSIONS.md", re.compile(r"(lib)?registry(_\w+)?"))
+
 FENCED = re.compile(r"^(```|~~~).*?^\1", re.MULTILINE | re.DOTALL)
 QUOTED = re.compile(r"`([^`\n]+)`")
 INLINE = re.compile(r"\[[^\]]*\]\(([^)\s]+)\)")
+TEXT = re.compile(r"\[([^\]]*)\]\(")
 BY_LABEL = re.compile(r"\[[^\]]+\]\[([^\]]+)\]")
 LABEL = re.compile(r"^\[([^\]]+)\]:\s*(\S+)", re.MULTILINE)
 HEADING = re.compile(r"^#+\s+(.*)$", re.MULTILINE)
 CUT_OFF = re.compile(r"^\|.*\n(?!\||\n)(.+)", re.MULTILINE)
 WORD = re.compile(r"[A-Za-z_][A-Za-z0-9_]*")
 
-# What is refused, and what to write.
-BANNED = (
-    (r"\bbut for\b", "except"),
-    (r"\bwants?\b(?! to\b)", "needs"),
-    (r"\banother than\b", "other than"),
-    (r"\bjust (?:where|when|the|this|that|as|one|its)\b", "exactly, or only"),
-    (r"\bwhatever (?!happens|it is\b)\w+", "any"),
-    (r"\bthe least (?:CPU|slot|id)\b", "the lowest-numbered"),
-    (r"\bgiven again\b", "reused"),
-    (r"\bstands? (?:in|at|there|beside|below|above|for|on|still|behind|under)\b", "is in, contains, or means"),
-    (r"\b(?:of|by|from|to|with|for) (?:which|whom)\b", "two sentences"),
-    (r"\blet through\b", "accepted, or missed"),
-    (r"\bin the place of\b", "instead of"),
-    (r"\b(?:is seen|sees?) to\b", "ensures"),
-    (r"\banswers? (?:done|that|it|as|by|what|how|why|of)\b", "returns"),
-    (r"\b(?:call|it|which|that|function|export) answers?\b", "returns"),
-    (r"\bmade up\b", "invented"),
-    (r"\breckon", "compute"),
-    (r"(?-i:\bOf) (?:the|an?|each|all|these|those|one|what|two|its|another) [^.;:]{3,60}?\b(?:is|are|has|have|says?|keeps?)\b", "turn the sentence round"),
-)
+# What a page for users does without, and what to write.
 PRIVATE = ((r"\b(?:seats?|ledgers?|deeds?|hears?|heard)\b", "no private word"),)
 
-# Pages for users, headers and manual pages among them: neither sort is accepted. Pages that explain the protocol: only private words are.
-USERS = ("README.md", "bench/README.md", "packaging/VERSIONS.md", "packaging/INSTALL.md", "docs/C.md", "c/include/*.h",
-         "man/*.7", "man/registry*.in", "netbsd/include/kupaldiz/*.h", "rust/README.md", "crates/registry_c/include/registry.h",
-         "docs/CHOOSING.md", "docs/SCRIPTS.md")
-EXPLAINING = ("docs/ARCHITECTURE.md", "docs/GUARANTEES.md", "docs/NETBSD.md", "docs/RATTLE.md")
+# Pages for users, headers and manual pages among them.
+USERS = ("README.md", "bench/README.md", "packaging/VERSIONS.md", "packaging/INSTALL.md", "docs/C.md", "c/include/*.h*",
+         "man/*.7", "man/kupaldiz*.in", "netbsd/include/kupaldiz/*.h", "rust/README.md", "crates/registry_c/include/kupaldiz.h",
+         "docs/CHOOSING.md", "docs/SCRIPTS.md", "docs/TUTORIAL-C.md", "docs/ERRORS.md", "docs/HOW-IT-WORKS.md", "docs/PROVED.md", "docs/RUST-RULES.md")
+# Pages that are still to be worked over: their prose has more columns, and links say nothing.
+ROUGH = ("bench/README.md", "docs/ARCHITECTURE.md", "docs/GUARANTEES.md", "docs/MODEL.md", "docs/NETBSD.md",
+        "docs/PROOFS.md", "docs/RATTLE.md", "explorer/README.md", "packaging/*.md")
+MOST_COLUMNS = 100
+# A line that nothing can break.
+ONLY_CODE = re.compile(r"\s*`[^`]+`[.,:;]?")
+# Texts of a link that don't say where it leads.
+EMPTY_TEXTS = ("more", "here", "this", "link")
 
 
 def tracked():
@@ -112,17 +109,26 @@ def unknown(text, words):
         yield from (f"`{quoted}`: {name}" for name in names if name not in words and name not in FOREIGN_WORDS)
 
 
-def held_to(name):
-    """The phrases that a page of that name may not have. The stars of a pattern are for names, not for folders."""
-    if any(name.count("/") == it.count("/") and fnmatch(name, it) for it in USERS):
-        return BANNED + PRIVATE
-    return BANNED if name in EXPLAINING else ()
+def is_one_of(name, patterns):
+    """Whether a pattern names the page. Its stars are for names, not for folders."""
+    return any(name.count("/") == it.count("/") and fnmatch(name, it) for it in patterns)
+
+
+def too_long(text):
+    """The lines of prose that have too many columns. A table's rows may."""
+    for number, line in enumerate(text.split("\n"), 1):
+        if len(line) > MOST_COLUMNS and not line.startswith(("|", "<img")) and not ONLY_CODE.fullmatch(line):
+            yield f"line {number} has {len(line)} columns"
+
+
+def without_code(text):
+    """The text with empty lines for those of its code."""
+    return FENCED.sub(lambda block: "\n" * block[0].count("\n"), text)
 
 
 def awkward(text, phrases):
     """Each line that has one of the phrases, except in code and in the targets of links: its number, the words, and what to write instead."""
-    without_code = FENCED.sub(lambda block: "\n" * block[0].count("\n"), text)
-    prose = INLINE.sub(lambda link: link[0][: link[0].rindex("](")], without_code)
+    prose = INLINE.sub(lambda link: link[0][: link[0].rindex("](")], without_code(text))
     for number, line in enumerate(prose.split("\n"), 1):
         for form, better in phrases:
             if found := re.search(form, line, re.IGNORECASE):
@@ -145,15 +151,27 @@ def checks_of(path, words):
     if path.suffix == ".md":
         prose = FENCED.sub("", text)
         yield "links", list(broken(path, prose))
-        yield "names", sorted(set(unknown(prose, words)))
-    if held_to(name):
-        yield "phrases", list(awkward(text, held_to(name)))
+        strange = set(unknown(prose, words))
+        yield "names", sorted(it for it in strange if name != EARLIER[0] or not EARLIER[1].fullmatch(it.rpartition(" ")[2]))
+        if not is_one_of(name, ROUGH):
+            yield "columns", list(too_long(without_code(text)))
+            yield "texts of links", [f"'{it}'" for it in TEXT.findall(prose) if it.lower() in EMPTY_TEXTS]
+    if is_one_of(name, USERS):
+        yield "phrases", list(awkward(text, PRIVATE))
+
+
+def has_facts(path):
+    """Whether it is a page, a manual page or a header."""
+    name = str(path.relative_to(ROOT))
+    return any(fnmatch(name, it) for it in ("*.md", "man/*", "*/include/*.h", "rust/src/lib.rs"))
 
 
 def main():
     files = tracked()
     words = words_of(files)
-    checks = ((path, kind, found) for path in files for kind, found in checks_of(path, words))
+    checks = [(path, kind, found) for path in files for kind, found in checks_of(path, words)]
+    if facts.FACTS in files:
+        checks += [(path, "facts", [fault] if fault else []) for path, fault in facts.compared(filter(has_facts, files))]
     sys.exit(counted("\n".join(f"{path.relative_to(ROOT)}: {kind}: {line}" for line in found) for path, kind, found in checks))
 
 

@@ -25,10 +25,10 @@ judge() {
     fi
 }
 
-# limited COMMAND..: the command; a program is ended after twenty minutes, so that one which waits for ever fails.
+# limited COMMAND..: the command; a program is ended after an hour, so that one which waits for ever fails.
 limited() {
     if [ "$(type -t "$1")" = file ]; then
-        timeout -v -k 10 1200 "$@"
+        timeout -v -k 10 3600 "$@"
     else
         "$@"
     fi
@@ -64,18 +64,13 @@ smallest_says() {
     limited "$@" >"$log.said" && diff "$log.said" - <<<'wm0 has value 1500'
 }
 
-apt_install() {
-    { apt-get update && DEBIAN_FRONTEND=noninteractive apt-get -o DPkg::Lock::Timeout=300 install -y "$@"; } </dev/null
-}
-
-# install_missing WORDS NAME:PACKAGE..: installs by apt, without asking, the packages of the commands and files that aren't there; WORDS are more of apt-get.
-# shellcheck disable=SC2086
-install_missing() {
-    local missing=() pair
-    for pair in "${@:2}"; do
-        command -v "${pair%%:*}" >/dev/null || [ -e "${pair%%:*}" ] || missing+=("${pair##*:}")
-    done
-    [ "${#missing[@]}" -eq 0 ] || check "installed ${missing[*]}" apt_install $1 "${missing[@]}"
+# has_packages PART: the packages are there that this part of tools/packages.py needs. If not, that
+# is a failed check, which says how to get them.
+has_packages() {
+    tools/packages.py "$1" >"$log.said" 2>&1 && return
+    sed '$d' "$log.said" >"$log"
+    judge "the packages that $1 needs" 1
+    return 1
 }
 
 # programs KIND HOW BEFORE PROGRAM..: each program with its words; what is before its name runs it. `smallest` says what it did.
@@ -114,18 +109,18 @@ counted() {
 
 # archive_names FOLDER [PREFIX]: other objects see each call of the headers in the archive there, and no other name.
 archive_names() {
-    diff <(packaging/calls-of.sh crates/registry_c/include/registry{,_limits}.h) <("${2-}nm" -g --defined-only "$1/libregistry.a" 2>/dev/null | awk 'NF == 3 { print $3 }' | sort)
+    diff <(packaging/calls-of.sh crates/registry_c/include/kupaldiz{,_limits}.h) <("${2-}nm" -g --defined-only "$1/libkupaldiz_proved.a" 2>/dev/null | awk 'NF == 3 { print $3 }' | sort)
 }
 
 # stack_within FOLDER: no call of the archive there takes more stack than the page says.
 stack_within() {
-    tools/frames.py "$1/libregistry.a" 4096
+    tools/frames.py "$1/libkupaldiz_proved.a" 4096
 }
 
 # header_alone HEADER WORD..: C takes the header alone, without a warning, and so does C++ where it is there.
 header_alone() {
     local text="#include <$1>"$'\nint one_thing;' words=(-Wall -Wextra -Wpedantic -Werror "${@:2}" -fsyntax-only) standard
-    for standard in c99 c11 c17 gnu17; do
+    for standard in c11 c17 gnu17 c2x; do
         gcc -std=$standard -D_POSIX_C_SOURCE=200809L "${words[@]}" -xc - <<<"$text" || return 1
     done
     ! command -v g++ >/dev/null || g++ -std=c++11 "${words[@]}" -xc++ - <<<"$text"

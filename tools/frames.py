@@ -19,7 +19,7 @@ FUNCTION = re.compile(r"^([0-9a-f]+) <(.*)>:$")
 # The unwind table of a function, and a row of one.
 TABLE, ROW = re.compile(r" FDE .* pc=([0-9a-f]+)\.\."), re.compile(r"^[0-9a-f]{16} (\w+)(?:\+(\d+))? ")
 # A function of the library's own has its path in its name.
-EXPORT = re.compile(r"^registry_\w+$")
+EXPORT = re.compile(r"^kupaldiz_\w+$")
 # What the C library does, by its own names: not counted.
 OUTSIDE = {f"{it}@plt" for it in ("malloc", "realloc", "free", "memcpy", "memmove", "memset", "memcmp")}
 # Of a processor: how its binutils are called, what a table may count from (the stack pointer, or where a frame of several pages will end), what a call takes,

@@ -1,20 +1,33 @@
 #!/usr/bin/env -S python3 -B
-"""The merge gate: the README's test command, which .ci/run starts. Each part below has a name and a command; that command's file says at its head what
-it does. tools/parts.py has the bounds on what the whole may take. docs/CONTRIBUTING.md says how to run one part, and how to read a failure.
+"""The merge gate: all that a merge requires, in one command.
 
-The groups come one after the other, the parts of a group beside each other. The last line, 'N passed, M failed', counts all of it; the status is 0
-where nothing failed.
+    tools/gate.py              installs nothing: a part fails that lacks a package, and says how to get it
+    tools/gate.py --install    installs what is missing first, by apt-get (tools/packages.py); .ci/run
+                               is this
+
+Each part below has a name and a command; that command's file says at its head what it does.
+tools/parts.py has the bounds on what the whole may take. docs/GATE.md says how to run one
+part, and how to read a failure.
+
+The groups come one after the other, the parts of a group beside each other. The last line,
+'N passed, M failed', counts all of it; the status is 0 if nothing failed.
 """
 import sys
 
 from parts import Part, gate
 
+WORDS = sys.argv[1:]
+if WORDS not in ([], ["--install"]):
+    sys.exit(__doc__)
+
 PROGRAM = "crates/registry_run/out/registry_run"
 FACE = "tools/test-face.sh --built"
 
 sys.exit(gate(
+    [Part("packages", ["tools/packages.py", *WORDS])],
     # What needs no proof.
     [
+        Part("layout and edits", "tools/check-forms.py"),
         Part("documents", "tools/check-docs.py"),
         Part("limits", "tools/limits.py check"),
         Part("imports", "tools/check-imports.py"),
@@ -35,7 +48,8 @@ sys.exit(gate(
         Part("aarch64, under qemu", "tools/test-aarch64.sh --built"),
         Part("memory behind entries", f"{FACE} heap"),
         Part("the manual pages' names", f"{FACE} netbsd"),
-        Part("the bench", f"{FACE} bench"),
+        Part("the explorer", f"{FACE} explorer"),
+        Part("tutorial", "tools/test-tutorial.py"),
         Part("manual page", f"{FACE} page"),
         Part("program", "tools/test-program.py"),
         Part("examples", f"tools/run-examples.py --program {PROGRAM}"),

@@ -10,7 +10,7 @@ A page's frame, PAGE.3.in, is mdoc with lines that stand for parts of the header
     @synopsis           each call as it is declared, by group
     @calls              each group, and what its comments say of its calls
     @types NAME..       these structs, with what their comments say of their members
-    @constants NAME..   from the enum that begins with NAME: what the comments say of each
+    @constants NAME     the enum of that name: what the comments say of each
     @example FILE NAME  the function of that name
 
 A comment is in paragraphs and lists of lines that begin with '- '. In it names of calls, constants, `parameters` and other pages are marked up.
@@ -23,20 +23,22 @@ import textwrap
 
 from parts import ROOT, counted
 
-PAGES = {"registry": "crates/registry_c/include/registry.h", "registry_waiting": "c/include/waiting.h"}
+PAGES = {"kupaldiz": "crates/registry_c/include/kupaldiz.h", "kupaldiz_waiting": "c/include/kupaldiz_waiting.h"}
 WIDTH = 80
 
 GROUP = re.compile(r"/\* ---- (.*?) ---- \*/")
-CALL = re.compile(r"/\*\n \* (registry_\w+) - ((?:(?!\*/).)*)\*/\n([^;{]*);", re.S)
-ATTRIBUTE = re.compile(r"\s+REGISTRY_[A-Z]+(?:\([^)]*\))?")
-DECLARATION = re.compile(r"^(.*?)(registry_\w+)\((.*)\)$", re.S)
+CALL = re.compile(r"/\*\n \* (kupaldiz_\w+) - ((?:(?!\*/).)*)\*/\n([^;{]*);", re.S)
+ATTRIBUTE = re.compile(r"\s+KUPALDIZ_[A-Z_]+(?:\([^)]*\))?")
+DECLARATION = re.compile(r"^(.*?)(kupaldiz_\w+)\((.*)\)$", re.S)
 # Words of a comment that have a macro of their own, with the marks before and after them.
 MARKED = re.compile(
     r"(?P<open>[(\[]?)"
-    r"(?:`(?P<code>[^`]+)`|(?P<zero>\{0\})|(?P<call>registry_\w+)(?!\.h|\(\d\)|\w)|(?P<constant>REGISTRY_[A-Z_]+|NULL|CLOCK_MONOTONIC)\b"
-    r"|(?P<member>[a-z]+->[a-z]+)|(?P<header>registry\w*\.h))"
+    r"(?:`(?P<code>[^`]+)`|(?P<zero>\{0\})|(?P<call>kupaldiz_\w+)(?!\.h|\(\d\)|\w)|(?P<constant>KUPALDIZ_[A-Z_]+|NULL|CLOCK_MONOTONIC)\b"
+    r"|(?P<member>[a-z]+->[a-z]+)|(?P<header>kupaldiz\w*\.h))"
     r"(?P<close>[.,:;)]*)(?=\s|$)")
 MACROS = {"code": "Fa", "zero": "Li", "call": "Fn", "constant": "Dv", "member": "Fa", "header": "In"}
+# Members of a struct from here on are nobody's but the library's.
+PRIVATE = "/* The rest is private. */"
 # A call of a header: its name, what its first line says, its comment's other lines, what it returns and its parameters.
 Call = collections.namedtuple("Call", "name summary comment result parameters")
 
@@ -85,7 +87,7 @@ def filled(text):
 
 def prose(text):
     """The lines of a text, each sentence on lines of its own."""
-    sentences = re.split(r"(?<=[.?!])\s+(?=[A-Z`{(]|registry_)", plain(text))
+    sentences = re.split(r"(?<=[.?!])\s+(?=[A-Z`{(]|kupaldiz_)", plain(text))
     return [line for it in sentences if it for line in marked_up(it)]
 
 
@@ -138,7 +140,7 @@ def calls(header):
         lines += [f".Ss {title}"] * bool(title) + prose(common) + [".Bl -tag -width Ds"]
         for call in members:
             names = [re.split(r"[ *]+", it)[-1] for it in call.parameters]
-            summary = call.summary if call.summary.startswith("registry_") else call.summary[0].upper() + call.summary[1:]
+            summary = call.summary if call.summary.startswith("kupaldiz_") else call.summary[0].upper() + call.summary[1:]
             lines += [" ".join([".It Fn", call.name, *names]), *prose(f"{summary}."), *[".Pp"] * bool(call.comment), *paragraphs(call.comment)]
         lines.append(".El")
     return lines
@@ -162,15 +164,16 @@ def types(header, *chosen):
     lines = [".Bl -tag -width Ds"]
     for name in chosen:
         comment, body = only(rf"/\*((?:(?!\*/).)*)\*/\nstruct {name} {{\n(.*?)^}};", header).groups()
+        shown = [(member.removesuffix(" {"), said) for member, said in members(body.partition(PRIVATE)[0]) if said != "private"]
         lines += [f".It Vt struct {name}", *paragraphs(uncommented(comment).strip()), ".Bl -tag -width Ds -compact"]
-        lines += [line for member, said in members(body) for line in (".It Vt " + quoted(member), *prose(said))] + [".El"]
+        lines += [line for member, said in shown for line in (".It Vt " + quoted(member), *prose(said))] + [".El"]
     return lines + [".El"]
 
 
-def constants(header, first):
-    body = only(rf"^enum {{\n(\s*{first}\b.*?)^}};", header)[1]
+def constants(header, name):
+    body = only(rf"^enum {name} {{\n(.*?)^}};", header)[1]
     items = [line for member, said in members(body) for line in (f".It Dv {member.split(' = ')[0]}", *prose(said))]
-    return [".Bl -tag -width REGISTRY_SECTIONS_SPENT -offset indent -compact", *items, ".El"]
+    return [".Bl -tag -width KUPALDIZ_SECTIONS_SPENT -offset indent -compact", *items, ".El"]
 
 
 def example(_, file, name):
@@ -208,10 +211,13 @@ def write(page):
         os.replace(path.with_suffix(f".{os.getpid()}"), path)
 
 
-if sys.argv[1:] == ["make"]:
-    for page in PAGES:
-        write(page)
-elif sys.argv[1:] == ["check"]:
-    sys.exit(counted("" for page in PAGES if made(page)))
-else:
-    sys.exit(__doc__)
+def main(words):
+    if words == ["make"]:
+        for page in PAGES:
+            write(page)
+        return 0
+    return counted("" for page in PAGES if made(page)) if words == ["check"] else __doc__
+
+
+if __name__ == "__main__":
+    sys.exit(main(sys.argv[1:]))

@@ -21,7 +21,7 @@ LIMITS = "crates/registry_values/src/limits.rt"
 # Where each limit may be chosen from and to.
 ROOM = "crates/registry_values/specs/Limits.antt"
 # The header that has the version.
-HEADER = "crates/registry_c/include/registry.h"
+HEADER = "crates/registry_c/include/kupaldiz.h"
 
 # The default build has this capacity, and keeps it.
 DEFAULTS = {"MOST_CPUS": 64, "MOST_SLOTS": 255, "MOST_CHANGES": 1 << 40, "MOST_SECTIONS": 1 << 62, "MOST_COUNT": 1 << 40, "MOST_DEPTH": 255}
@@ -32,12 +32,13 @@ CHOSEN = {"cpus": "MOST_CPUS", "slots": "MOST_SLOTS"}
 
 HEAD = """\
 /*
- * registry_limits.h - the limits that the library was built for
+ * kupaldiz_limits.h - the limits that the library was built for
  *
- * tools/limits.py makes this file from the limits in the proved code. A build with other limits has another one. registry.h includes it.
+ * tools/limits.py makes this file from the limits in the proved code. A build with other limits has
+ * another one. kupaldiz.h includes it.
  */
-#ifndef REGISTRY_LIMITS_H
-#define REGISTRY_LIMITS_H
+#ifndef KUPALDIZ_LIMITS_H
+#define KUPALDIZ_LIMITS_H
 
 #include <stdint.h>
 """
@@ -46,9 +47,9 @@ HEAD = """\
 SAID = {
     "MOST_CPUS": "CPUs of a registry, at most.",
     "MOST_SLOTS": "Entries of a registry at a time, live and retired, at most: its slots.",
-    "MOST_CHANGES": "Attaches and detaches of a registry together, at most.",
+    "MOST_CHANGES": "Attaches, detaches and replacements of a registry together, at most.",
     "MOST_SECTIONS": "Outermost sections of a CPU, at most.",
-    "MOST_COUNT": "Passive references of a CPU to an entry, at most, and how far from 0 its net count of local references may be.",
+    "MOST_COUNT": "Passive references of a CPU to an entry, at most, and its net count of local ones.",
     "MOST_DEPTH": "Open enters of a CPU, at most.",
 }
 
@@ -56,21 +57,17 @@ SAID = {
 LARGE = ("MOST_CHANGES", "MOST_SECTIONS", "MOST_COUNT")
 
 TAIL = """
-/*
- * The library's function that compares limits has this name; registry.h declares it. The name contains the two limits on which sizes of structs
- * depend, and the version: major and minor, or from 1 on the major one. So a program that was compiled for others doesn't link or start with this
- * library.
- */
-#define REGISTRY_BUILT_FOR	registry_for_{MOST_CPUS}_cpus_{MOST_SLOTS}_slots_v{version}
+/* The name of the library's function that compares limits: kupaldiz.h says what for. */
+#define KUPALDIZ_BUILT_FOR	kupaldiz_for_{MOST_CPUS}_cpus_{MOST_SLOTS}_slots_v{version}
 
 /* What the shared libraries of this build have in their names. The default build has nothing. */
-#define REGISTRY_BUILD	"{build}"
+#define KUPALDIZ_BUILD	"{build}"
 
 #endif
 """
 
-# Where the header is: beside registry.h, and again in a crate that is used alone. `rt ci` takes no links.
-PLACED = ("crates/registry_c/include/registry_limits.h", "rust/registry_limits.h")
+# Where the header is: beside kupaldiz.h, and again in a crate that is used alone. `rt ci` takes no links.
+PLACED = ("crates/registry_c/include/kupaldiz_limits.h", "rust/kupaldiz_limits.h")
 
 # Which constant a place has, and how it says it.
 PLACES = (
@@ -104,7 +101,7 @@ def limits(path=ROOT / LIMITS):
 
 def version():
     """What a program and its library have in common: the major and the minor version, or from 1 on the major one."""
-    numbers = dict(re.findall(r"^#define REGISTRY_VERSION_(\w+)\t(\d+)$", (ROOT / HEADER).read_text(), re.M))
+    numbers = dict(re.findall(r"^#define KUPALDIZ_VERSION_(\w+)\t(\d+)$", (ROOT / HEADER).read_text(), re.M))
     if not {"MAJOR", "MINOR"} <= set(numbers):
         raise Fault(f"{HEADER} says no version")
     return "{MAJOR}_{MINOR}".format(**numbers) if numbers["MAJOR"] == "0" else numbers["MAJOR"]
@@ -175,7 +172,7 @@ def header(of):
     """The whole header for these limits."""
     if lacking := [it for it in DEFAULTS if of[it] is None]:
         raise Fault(f"the file says no {lacking[0]}")
-    lines = [f"\n/* {SAID[name]} */\n#define REGISTRY_{name}\t{in_c(name, of[name])}\n" for name in DEFAULTS]
+    lines = [f"\n/* {SAID[name]} */\n#define KUPALDIZ_{name}\t{in_c(name, of[name])}\n" for name in DEFAULTS]
     default = all(of[name] == DEFAULTS[name] for name in ("MOST_CPUS", "MOST_SLOTS"))
     build = "" if default else f"-{of['MOST_CPUS']}x{of['MOST_SLOTS']}"
     return HEAD + "".join(lines) + TAIL.format(build=build, version=version(), **of)

@@ -1,6 +1,6 @@
 #!/usr/bin/env bash
 # Makes a release for C and Rust out of what is proved, in release/: archives to unpack, the source around them, a crate, Debian packages, PROVED and
-# SHA256SUMS. docs/RECIPES.md says how it is laid out. The same commit and the same archives make the same bytes.
+# SHA256SUMS. docs/RELEASING.md says how it is laid out. The same commit and the same archives make the same bytes.
 #
 #     tools/make-release.sh                  takes the archives in out and the program, as tools/build-archive.sh and tools/prove-program.sh left them
 #     tools/make-release.sh --prove          proves and builds all three first
@@ -75,11 +75,11 @@ prove_all() {
 }
 
 need_proved() {
-    grep -qx "version = \"$version\"" rust/Cargo.toml || refuse "rust/Cargo.toml has another version than registry.h, which has $version"
-    tools/proof-record.py check out/libregistry.a || exit 2
+    grep -qx "version = \"$version\"" rust/Cargo.toml || refuse "rust/Cargo.toml has another version than kupaldiz.h, which has $version"
+    tools/proof-record.py check out/libkupaldiz_proved.a || exit 2
     ./registry_run --proved >/dev/null || refuse "there is no proved registry_run of the sources that stand: tools/prove-program.sh proves and builds it"
-    if [ -e out/aarch64/libregistry.a ]; then
-        tools/proof-record.py check out/aarch64/libregistry.a || exit 2
+    if [ -e out/aarch64/libkupaldiz_proved.a ]; then
+        tools/proof-record.py check out/aarch64/libkupaldiz_proved.a || exit 2
         need aarch64-linux-gnu-gcc gcc-aarch64-linux-gnu
         need_library aarch64-linux-gnu-gcc libc6-dev-arm64-cross
     else
@@ -103,10 +103,10 @@ binaries() {
     cp -r "$room/$source_name" "$source"
     words=(CC="$compiler" CFLAGS=-O2 WERROR= PREFIX="/$name" DESTDIR="$room/tree" DOCDIR="/$name/share/doc/kupaldiz" EXAMPLESDIR="/$name/examples")
     # shellcheck disable=SC2016
-    words+=(PC_PREFIX='$${pcfiledir}/../..' RUNPATH='$$ORIGIN')
+    words+=(PC_PREFIX='$${pcfiledir}/../..')
     quietly make -C "$source" symbols install install-examples "${words[@]}"
     cp packaging/INSTALL.md "$room/tree/$name/README.md"
-    cp "$source/archive/$1/libregistry.proved" "$room/tree/$name/PROVED"
+    cp "$source/archive/$1/libkupaldiz.proved" "$room/tree/$name/PROVED"
     if [ -f "$source/archive/$1/registry_run" ]; then
         install -D -m 755 "$source/archive/$1/registry_run" "$room/tree/$name/bin/registry_run"
         install -D -m 644 "$source/man/registry_run.1" "$room/tree/$name/share/man/man1/registry_run.1"
@@ -121,7 +121,7 @@ crate() {
     for processor in x86_64 aarch64; do
         if [ -d "$room/$source_name/archive/$processor" ]; then
             mkdir -p "$room/crate/archive/$processor"
-            cp "$room/$source_name/archive/$processor"/{libregistry.*,registry_limits.h} "$room/crate/archive/$processor"
+            cp "$room/$source_name/archive/$processor"/{libkupaldiz_proved.*,kupaldiz_limits.h} "$room/crate/archive/$processor"
         fi
     done
     (cd "$room/crate" && CARGO_TARGET_DIR=$room/target quietly cargo package --offline --no-verify --allow-dirty)
@@ -143,7 +143,7 @@ packages() {
 proved() {
     local record
     echo "kupaldiz $version, of commit $(git rev-parse HEAD)"
-    for record in "$room/$source_name"/archive/*/libregistry.proved; do
+    for record in "$room/$source_name"/archive/*/libkupaldiz.proved; do
         echo
         cat "$record"
     done
@@ -170,7 +170,7 @@ quietly packaging/dist.sh --lay "$room/$source_name"
 packaging/pack.sh "$room" "$source_name" "$SOURCE_DATE_EPOCH" >"$made/$source_name.tar.xz"
 binaries x86_64
 packages amd64 -b
-if [ -e out/aarch64/libregistry.a ]; then
+if [ -e out/aarch64/libkupaldiz_proved.a ]; then
     binaries aarch64
     # By the cross compiler, whose packages aren't those that dpkg-buildpackage looks for.
     packages arm64 -B -aarm64 -d

@@ -3,7 +3,7 @@
 
     tools/mutants.py [--least N] [--sample N] [--seed N] [FILE[:LINE]]..    those of a file, or of one line of it; without a name all
 
-The code is c/src/waiting.c, what is C of the archive, netbsd/src/*.c and rust/src/*.rs. Each wrong body is built in a copy of the tree, and the tests of the
+The code is c/src/waiting/*.c, what is C of the archive, netbsd/src/*.c and rust/src/*.rs. Each wrong body is built in a copy of the tree, and the tests of the
 file's own library run until one fails: first those that saw most other wrong bodies of the file, and of these the shortest. A body that the compiler makes the
 same code of isn't run. A test that fails runs a second time: one failure on a busy machine kills nothing. Then it must pass on the tree as it stands, or the
 body is left untried, as `busy`. It hangs if it takes five times as long as on the tree as it stands, and --least seconds (5).
@@ -43,8 +43,8 @@ COUNTED = dict(zip("+ - * / % += -= << >> & | ^ |= &=".split(), ([it] for it in 
 OPERATOR = re.compile(r"(?<=\s)[-=!<>+*/%&|^]{1,2}(?=\s)")
 PAIRS = [it.split("/") for it in "true/false break/continue min/max is_some/is_none is_ok/is_err any/all".split()]
 WORDS = {one: [other] for pair in PAIRS for one, other in (pair, pair[::-1])}
-# Answers: those of registry.h, of Linux, and of the crate. Each is swapped with another one, a refusal with the first of these where there is one.
-ANSWER = re.compile(r"\bREGISTRY_(?!MOST_)[A-Z_]+\b(?!\()|(?<=return )E[A-Z]{3,}\b|(?<=[?:] )E[A-Z]{3,}\b|(?<=\bRefusal::)[A-Z]\w+")
+# Answers: those of kupaldiz.h, of Linux, and of the crate. Each is swapped with another one, a refusal with the first of these where there is one.
+ANSWER = re.compile(r"\bKUPALDIZ_(?!MOST_)[A-Z_]+\b(?!\()|(?<=return )E[A-Z]{3,}\b|(?<=[?:] )E[A-Z]{3,}\b|(?<=\bRegistryError::)[A-Z]\w+")
 NUMBER = re.compile(r"(?P<sized>\[?)\b(?P<value>0[xX][0-9a-fA-F]+|[0-9]+)(?P<suffix>[uUlL]*|[ui](?:8|16|32|64|128|size))\b")
 NEGATION = re.compile(r"(?:(?<=\()|(?<=(?:&&|\|\|) )|(?<=[=,] )|(?<=if )|(?<=return ))!(?=\w)")
 # What gives something up that was taken: it may come too early.
@@ -90,7 +90,7 @@ def by_values(code, _):
         if not (found["sized"] and value >= 16):
             yield from (Change("constant", found.start("value"), found.end(), f"{new}{found['suffix']}") for new in ((value + 1,) if value != 1 else (0, 2)))
     for found in ANSWER.finditer(code):
-        kinds = ("REGISTRY_DONE", "REGISTRY_NOT_FOUND") if found[0].startswith("REGISTRY_") else ("0", "0") if found[0].isupper() else ("NotFound", "NoSlot")
+        kinds = ("KUPALDIZ_DONE", "KUPALDIZ_NOT_FOUND") if found[0].startswith("KUPALDIZ_") else ("0", "0") if found[0].isupper() else ("NotFound", "NoSlot")
         yield Change("answer", *found.span(), kinds[found[0] == kinds[0]])
 
 
@@ -174,7 +174,7 @@ C_FLAGS = "STRICT=-std=c11 -D_POSIX_C_SOURCE=200809L -w"
 # Without what a debugger needs the same code is the same object, wherever its lines are.
 BARE = "CFLAGS=-O2 -g0"
 # What builds and tests are told; the layer's drivers run as often as in the gate.
-SET = {"CARGO_BUILD_JOBS": "1", "BENCH_RUNS": "40"}
+SET = {"CARGO_BUILD_JOBS": "1", "EXPLORER_RUNS": "40"}
 # What a program may write and take at most. Those with sanitizers reserve more memory than there is.
 MOST_BYTES = 1 << 32
 # A build takes at most so many seconds. On a wrong body a test may take --least and so many times what it took without it.
@@ -187,17 +187,17 @@ Mutant = collections.namedtuple("Mutant", "file line rule old new text")
 Library = collections.namedtuple("Library", "files tests compiled")
 
 MAKES_LAYER = ["make", "-s", "-C", "netbsd", C_FLAGS, BARE]
-MAKES_BENCH = ["make", "-s", "-C", "explorer", "WARNINGS=-w", BARE]
+MAKES_EXPLORER = ["make", "-s", "-C", "explorer", "WARNINGS=-w", BARE]
 # The ways in which the layer's Makefile builds its programs, and whether without sanitizers.
-WAYS = {"plain": True, "small": False, "raced_small": False, "wide": False, "sanitized": False, "raced": False}
-# The programs of the bench that see the layer, with their words.
-BENCH = {"counts": [], "drivers": [], "finds": [], "callouts": [], "failures": [], "kernel_files": [], "refusals": [], "named": [], "outcomes": ["1", "40"]}
-# The tests of waiting.c, with their words.
-OVER_WAITING = {"turns": [], "reclaims": [], "lent": [], "deferred": [], "interrupted": [], "together": ["20"]}
+WAYS = {"plain": True, "wide": False, "sanitized": False, "raced": False}
+# The programs of the explorer that see the layer, with their words.
+EXPLORER = {"counts": [], "drivers": [], "finds": [], "kernel_rules": [], "schedules": [], "callouts": [],
+         "failures": [], "kernel_files": [], "refusals": [], "named": [], "outcomes": ["1", "40"]}
+# The tests of these modules, with their words.
+OVER_WAITING = {"turns": [], "reclaims": [], "lent": [], "deferred": [], "later": [], "late": [], "interrupted": [], "together": ["20"]}
 # What is C of the archive, and the programs that see each part, with their words.
 PARTS = {
     "heap": {"allocs": [], "history": ["3000"], "misuse": []},
-    "composed": {"history": ["3000"], "misuse": [], "sanitized-history": ["3000"]},
     "strings": {"names": [], "sanitized-names": []},
 }
 CARGO = "cargo test --offline -q --manifest-path rust/Cargo.toml"
@@ -207,16 +207,16 @@ OBJECT = "mutant.o"
 
 
 def of_waiting(_):
-    """The programs that waiting.c is compiled into."""
+    """The programs that a module of kupaldiz_waiting.h is compiled into."""
     return [Test(it, ["make", "-s", C_FLAGS, f"out/{it}"], [f"out/{it}", *words]) for it, words in OVER_WAITING.items() if (ROOT / f"c/tests/{it}.c").is_file()]
 
 
 # Makes an archive in out/part in which one part in C is as it is here: the functions that the archive has already give way, seen from outside and weak.
-JOIN = """set -e; mkdir -p out/part; cd out/part; rm -f libregistry.a
+JOIN = """set -e; mkdir -p out/part; cd out/part; rm -f libkupaldiz_proved.a
 gcc -std=c11 -O2 -fPIC -ffunction-sections -I../../crates/registry_c/include -c -o part.o ../../c/src/PART.c
-ar x ../libregistry.a registry.o; nm -g --defined-only part.o | awk '{ print $3 }' >names; [ -s names ]
-objcopy --globalize-symbols=names registry.o seen.o; objcopy --weaken-symbols=names seen.o rest.o
-ld -r -o whole.o part.o rest.o; ar rcsD libregistry.a whole.o; cd ../..
+ar x ../libkupaldiz_proved.a kupaldiz.o; nm -g --defined-only part.o | awk '{ print $3 }' >names; [ -s names ]
+objcopy --globalize-symbols=names kupaldiz.o seen.o; objcopy --weaken-symbols=names seen.o rest.o
+ld -r -o whole.o part.o rest.o; ar rcsD libkupaldiz_proved.a whole.o; cd ../..
 """
 
 
@@ -224,7 +224,7 @@ def of_part(file):
     """The programs that see a part of the archive that is C. Each is linked with an archive in which that part is as it is here."""
     part, folder = pathlib.Path(file).stem, "out/part"
     joined = JOIN.replace("PART", part)
-    made = f"make -s OUT={folder} ARCHIVE={folder}/libregistry.a '{C_FLAGS}'"
+    made = f"make -s OUT={folder} ARCHIVE={folder}/libkupaldiz_proved.a '{C_FLAGS}'"
     return [Test(it, ["sh", "-c", f"{joined}{made} {folder}/{it}"], [f"{folder}/{it}", *words], None if it.startswith("sanitized-") else MOST_BYTES)
             for it, words in PARTS[part].items()]
 
@@ -236,10 +236,10 @@ def programs(way):
 
 
 def of_layer(_):
-    """The layer's programs in each way, and the bench's."""
+    """The layer's programs in each way, and the explorer's."""
     found = [Test(f"{way}/{it}", [*MAKES_LAYER, f"../out/netbsd/{way}/{it}"], [f"out/netbsd/{way}/{it}"], MOST_BYTES if is_bare else None)
              for way, is_bare in WAYS.items() for it in programs(way)]
-    return found + [Test(f"bench/{it}", [*MAKES_BENCH, f"../out/bench/plain/{it}"], [f"out/bench/plain/{it}", *words]) for it, words in BENCH.items()
+    return found + [Test(f"explorer/{it}", [*MAKES_EXPLORER, f"../out/explorer/plain/{it}"], [f"out/explorer/plain/{it}", *words]) for it, words in EXPLORER.items()
                     if (ROOT / f"explorer/tests/{it}.c").is_file()]
 
 
@@ -259,7 +259,7 @@ def compile_layer(file):
 
 
 LIBRARIES = (
-    Library("c/src/waiting.c", of_waiting, compile_c),
+    Library("c/src/waiting/*.c", of_waiting, compile_c),
     *(Library(f"c/src/{part}.c", of_part, compile_c) for part in PARTS),
     Library("netbsd/src/*.c", of_layer, compile_layer),
     Library("rust/src/*.rs", of_crate, None),
@@ -294,7 +294,7 @@ class Trial:
 
     def run(self, words, seconds=LONGEST, memory=None):
         """Runs a command, and ends it with all that it started; its status, or None where the time was over, and what it said last."""
-        environment = {it: text for it, text in os.environ.items() if it not in ("CARGO_TARGET_DIR", "REGISTRY_LIB_DIR")} | SET
+        environment = {it: text for it, text in os.environ.items() if it not in ("CARGO_TARGET_DIR", "KUPALDIZ_LIB_DIR")} | SET
         limits = ["prlimit", "--core=0", f"--fsize={MOST_BYTES}", *([f"--data={memory}"] if memory else [])]
         with tempfile.TemporaryFile() as said:
             with started([*limits, *words], cwd=self.folder, env=environment, stdout=said, stderr=said) as process:

@@ -29,7 +29,8 @@ TESTS = re.compile(r"^test result: \w+\. (\d+) passed; (\d+) failed;", re.MULTIL
 # No count: the status is the one check.
 STATUS = None
 
-Part = collections.namedtuple("Part", "name command count folder memory", defaults=(LAST_LINE, ROOT, GIGABYTE // 4))
+# `needs` is the part of tools/packages.py whose packages it needs, if it needs any.
+Part = collections.namedtuple("Part", "name command count folder memory needs", defaults=(LAST_LINE, ROOT, GIGABYTE // 4, ""))
 Ended = collections.namedtuple("Ended", "name passed failed clock processor text")
 
 # The processes that lead a session of their own, and whether no other one may start any more.

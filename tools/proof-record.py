@@ -1,5 +1,5 @@
 #!/usr/bin/env -S python3 -B
-"""The record of an archive's proof, which lies beside the archive as libregistry.proved.
+"""The record of an archive's proof, which lies beside the archive as libkupaldiz.proved.
 
     tools/proof-record.py begin LIMITS                                  prints the first line of a LOG, before a proof begins: the sum of what is to be proved
     tools/proof-record.py write PROCESSOR LIMITS LOG COMPILED OBJECT    prints the record of an archive that was just made
@@ -19,7 +19,7 @@ import limits as chosen
 from kit import ROOT, below
 
 LIBRARY = "registry_c"
-PARTS = ("heap", "composed", "strings", "limits")
+PARTS = ("heap", "strings")
 VERDICT = re.compile(r"^logic=.*$", re.M)
 BEGAN = "proved: "
 NAMES = ("processor", "limits", "kit", "verdict", "sources", "commit", "compiled", "object")
@@ -64,7 +64,8 @@ def sum_of_files(files, limits):
 def commit():
     """The tree's commit, and whether a source was changed since; `none` outside a repository."""
     try:
-        changed = subprocess.run(["git", "status", "--porcelain", "--", "crates", "crates.txt"], cwd=ROOT, capture_output=True, text=True, check=True).stdout
+        made_from = ["crates", "crates.txt", *(f"c/src/{part}.c" for part in PARTS)]
+        changed = subprocess.run(["git", "status", "--porcelain", "--", *made_from], cwd=ROOT, capture_output=True, text=True, check=True).stdout
         return said("git", "rev-parse", "HEAD") + (", with changes" if changed.strip() else "")
     except (OSError, subprocess.CalledProcessError):
         return "none"
@@ -98,9 +99,9 @@ def read(path):
 
 def sum_in(archive):
     """The sum of the one object that the archive has."""
-    listed, whole = (subprocess.run(["ar", *words], capture_output=True) for words in (("t", archive), ("p", archive, "registry.o")))
-    if listed.stdout.split() != [b"registry.o"] or whole.returncode != 0:
-        raise Fault(f"{archive} has no object registry.o, or another one beside it")
+    listed, whole = (subprocess.run(["ar", *words], capture_output=True) for words in (("t", archive), ("p", archive, "kupaldiz.o")))
+    if listed.stdout.split() != [b"kupaldiz.o"] or whole.returncode != 0:
+        raise Fault(f"{archive} has no object kupaldiz.o, or another one beside it")
     return hashlib.sha256(whole.stdout).hexdigest()
 
 
@@ -112,7 +113,7 @@ def flags(archive):
 
 def check(name):
     archive = pathlib.Path(name)
-    path = archive.with_suffix(".proved")
+    path = archive.with_name(archive.name.replace("_proved.a", ".proved"))
     remedy = MAKE.format(flags(archive))
     for needed in (archive, path):
         if not needed.is_file():

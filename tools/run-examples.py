@@ -26,7 +26,7 @@ REPORT = "\n# It prints:\n"
 WANTED = {"report": lambda text: (0, text, ""), "fault": lambda text: (2, "", text)}
 SOURCES = {
     "rust": [*sorted((ROOT / "crates/registry_examples/src").glob("*.rt")), *sorted((ROOT / "rust/examples").glob("*.rs"))],
-    "c": [*sorted((ROOT / "c").rglob("*.c")), *sorted((ROOT / "netbsd/tests").rglob("*.c"))],
+    "c": [path for folder in ("c", "netbsd/tests", "docs/tutorial") for path in sorted((ROOT / folder).rglob("*.c"))],
 }
 PAGES = [ROOT / "README.md", ROOT / "rust/README.md", *sorted((ROOT / "docs").glob("*.md"))]
 FILES = [ROOT / "README.md", *sorted((ROOT / "docs").glob("*.md")), *sorted((ROOT / "examples").glob("*.txt"))]

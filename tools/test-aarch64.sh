@@ -1,6 +1,7 @@
 #!/usr/bin/env bash
 # Builds the archive for aarch64, builds the clients in C and the manual pages' own names over it, and runs them under qemu-user. Each step says what
-# it does; the last line is 'N passed, M failed'. What is missing is installed by apt: qemu, and Debian's compiler and C library for that processor.
+# it does; the last line is 'N passed, M failed'. It needs the packages of aarch64 in tools/packages.py:
+# qemu, and Debian's compiler and C library for that processor.
 #
 #     tools/test-aarch64.sh            proves the library for aarch64 first
 #     tools/test-aarch64.sh --built    takes the library that tools/archive-beside.py has proved for aarch64, and left in out/aarch64
@@ -17,11 +18,6 @@ out=out/$processor
 cross=$processor-linux-gnu-
 library=$out/libregistry_c.a
 emulator=qemu-$processor-static
-
-install_tools() {
-    install_missing --no-install-recommends "$emulator:qemu-user-static" "${cross}gcc:gcc-aarch64-linux-gnu" \
-        /usr/aarch64-linux-gnu/include/stdlib.h:libc6-dev-arm64-cross
-}
 
 build_archive() {
     local given=()
@@ -62,13 +58,13 @@ test_clients() {
     check "each answer is the model's" emulated -L "/usr/$processor-linux-gnu" "$out/history" 1000 1 small
     programs C: "" "emulated $out/" smallest packet shared misuse built names 'turns emulated' 'deferred 200 1' \
         'forwarder 200' 'device_switch 20' 'together 20'
-    counted "programs compiled for other limits" env CC="${cross}gcc" RUN="$emulator" packaging/other-limits.sh crates/registry_c/include "$out/libregistry.a"
+    counted "programs compiled for other limits" env CC="${cross}gcc" RUN="$emulator" packaging/other-limits.sh crates/registry_c/include "$out/libkupaldiz_proved.a"
 }
 
 test_netbsd() {
     local test
     # Each driver runs so often on threads. One run takes up to a second here.
-    local -x BENCH_RUNS=10
+    local -x EXPLORER_RUNS=10
     check "the manual pages' own names are built, no warning" make_for netbsd plain
     # Where a program ends by a signal, the emulator says a line of its own: so not those that compare all that is said there.
     for test in $(make_for netbsd list-plain); do
@@ -101,7 +97,7 @@ fetch_rust() {
 rust_tests() (
     local room=$PWD/$out/debian
     cd rust || return
-    local -x REGISTRY_CHANGES=1 LD_LIBRARY_PATH=$room/usr/lib/x86_64-linux-gnu RUSTC=$room/usr/bin/rustc CARGO_TARGET_DIR=$PWD/../out/$processor/rust
+    local -x KUPALDIZ_CHANGES=1 LD_LIBRARY_PATH=$room/usr/lib/x86_64-linux-gnu RUSTC=$room/usr/bin/rustc CARGO_TARGET_DIR=$PWD/../out/$processor/rust
     local -x CARGO_TARGET_AARCH64_UNKNOWN_LINUX_GNU_LINKER=${cross}gcc CARGO_TARGET_AARCH64_UNKNOWN_LINUX_GNU_RUNNER="env -u LD_LIBRARY_PATH $emulator"
     local -x RUSTFLAGS='-C target-feature=+crt-static'
     local words=("$room/usr/bin/cargo" test --offline --no-fail-fast --target "$processor-unknown-linux-gnu")
@@ -117,7 +113,7 @@ test_order() {
     check "history does" ordered history 200 1
     check "a plain load is seen" sees_plain_load
     check "a weaker step is seen" sees_weaker_step
-    check "the archive's atomic instructions are these four, and most were met" tools/atomics.py "$out/libregistry.a" "$out"/ordered-{misuse,history}
+    check "the archive's atomic instructions are these four, and most were met" tools/atomics.py "$out/libkupaldiz_proved.a" "$out"/ordered-{misuse,history}
 }
 
 is_built=
@@ -125,7 +121,7 @@ case "$*" in
 '') ;;
 --built) is_built=yes ;;
 --rust)
-    install_tools
+    has_packages aarch64 || finish
     check "Debian's Rust for both processors is fetched" fetch_rust
     counted "the Rust crate's tests" rust_tests
     finish
@@ -135,9 +131,9 @@ case "$*" in
     exit 2
     ;;
 esac
-install_tools
+has_packages aarch64 || finish
 check "the archive for $processor, $([ -n "$is_built" ] || echo 'proved and ')built" build_archive
-if [ ! -e "$out/libregistry.a" ]; then
+if [ ! -e "$out/libkupaldiz_proved.a" ]; then
     finish
 fi
 check "it has the header's calls" archive_names "$out" "$cross"

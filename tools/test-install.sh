@@ -1,12 +1,12 @@
 #!/usr/bin/env bash
-# Installs libkupaldiz, libkupaldiz_netbsd and libkupaldiz_bench into scratch folders, looks at each file that is there, builds and runs programs that know
+# Installs libkupaldiz, libkupaldiz_netbsd and libkupaldiz_explorer into scratch folders, looks at each file that is there, builds and runs programs that know
 # the libraries by pkg-config alone, and uninstalls them: under a folder of its own, as Debian has it, in a path with blanks, and over an older version.
-# It needs out/libregistry.a; the last line is 'N passed, M failed'.
+# It needs out/libkupaldiz_proved.a; the last line is 'N passed, M failed'.
 # shellcheck source=tools/checks.sh
 . "$(dirname "$0")/checks.sh"
-need out/libregistry.a "tools/build-archive.sh proves and builds it"
-need "$(command -v pkg-config || echo pkg-config)" "apt-get install pkg-config"
-header=crates/registry_c/include/registry.h
+need out/libkupaldiz_proved.a "tools/build-archive.sh proves and builds it"
+has_packages c || finish
+header=crates/registry_c/include/kupaldiz.h
 module=kupaldiz
 # What is installed from, and where to.
 top=.
@@ -21,7 +21,7 @@ made() {
 
 # version [HEADER]: what the header says.
 version() {
-    sed -nE 's/^#define REGISTRY_VERSION_(MAJOR|MINOR|PATCH)[[:blank:]]+//p' "${1:-$header}" | paste -sd .
+    sed -nE 's/^#define KUPALDIZ_VERSION_(MAJOR|MINOR|PATCH)[[:blank:]]+//p' "${1:-$header}" | paste -sd .
 }
 
 # abi [VERSION]: what the sonames have of it: below 1.0 the minor version too.
@@ -41,13 +41,13 @@ has_soname() {
 
 # A program of the pages' names that is compiled for other CPUs than the library has doesn't link, and the linker names them.
 refused_by_linker() {
-    ! gcc -DKUPALDIZ_CPUS=15 -o "$room/for_other" -I"$stage$prefix/include/kupaldiz/netbsd" c/tests/installed_netbsd.c -L"$stage$libdir" -lkupaldiz_netbsd -lkupaldiz -pthread >"$room/said" 2>&1 &&
-        grep 'undefined reference to .kupaldiz_registry_for_.*_on_15' "$room/said"
+    ! gcc -DKUPALDIZ_CPUS=15 -o "$room/for_other" -I"$stage$prefix/include/kupaldiz/netbsd" c/tests/installed_netbsd.c -L"$stage$libdir" -lkupaldiz_netbsd -pthread >"$room/said" 2>&1 &&
+        grep 'undefined reference to .kupaldiz_for_15_cpus' "$room/said"
 }
 
-# An #include of a plain name, as <cpu.h>, finds nothing of these libraries: what the folders for the compiler offer is in folders of its own.
+# An #include of a plain name, as <cpu.h>, finds nothing of these libraries: what the folders for the compiler offer has the library's name, or a folder's.
 offers_no_plain_name() {
-    prints_nothing find "$stage$prefix/include" "$stage$prefix/include/kupaldiz/netbsd" -maxdepth 1 -type f
+    prints_nothing find "$stage$prefix/include" "$stage$prefix/include/kupaldiz/netbsd" -maxdepth 1 -type f -not -name 'kupaldiz*.h'
 }
 
 # is_hardened LIBRARY: its relocations are done and read-only from the start on, its stack isn't run, and it stays loaded.
@@ -64,13 +64,13 @@ takes_shadow_stack() {
 }
 
 # What is built over each library, and what it says.
-declare -A sources=([kupaldiz]=installed [netbsd]=installed_netbsd [bench]=installed_bench)
-declare -A says=([kupaldiz]="C, version" [netbsd]="C, by the pages' names" [bench]="C, in every order")
+declare -A sources=([kupaldiz]=installed [netbsd]=installed_netbsd [explorer]=installed_explorer)
+declare -A says=([kupaldiz]="C, version" [netbsd]="C, by the pages' names" [explorer]="C, in every order")
 
 # A project of CMake's that knows the libraries by find_package alone, shared and static.
 found_by_cmake() {
-    local library kind kinds=(kupaldiz:kupaldiz static:kupaldiz {netbsd,netbsd_static}:netbsd {bench,bench_static}:bench)
-    mkdir -p "$room/cmake" && cp c/tests/installed{,_netbsd,_bench}.c "$room/cmake" &&
+    local library kind kinds=(kupaldiz:kupaldiz static:kupaldiz {netbsd,netbsd_static}:netbsd {explorer,explorer_static}:explorer)
+    mkdir -p "$room/cmake" && cp c/tests/installed{,_netbsd,_explorer}.c "$room/cmake" &&
         printf '%s\n' 'cmake_minimum_required(VERSION 3.13)' 'project(installed C)' 'find_package(kupaldiz 0.1 REQUIRED)' >"$room/cmake/CMakeLists.txt" || return
     for kind in "${kinds[@]}"; do
         printf 'add_executable(of-%s %s.c)\ntarget_link_libraries(of-%s PRIVATE kupaldiz::%s)\n' "${kind%:*}" "${sources[${kind#*:}]}" "${kind%:*}" "${kind%:*}"
@@ -98,13 +98,13 @@ moved() {
 in_place() {
     # shellcheck disable=SC2046
     gcc -o "$room/in_place" c/tests/installed.c $(PKG_CONFIG_PATH=$stage$libdir/pkgconfig pkg-config --cflags --libs kupaldiz) &&
-        runs in_place "C, version $(version crates/registry_c/include/registry.h)"
+        runs in_place "C, version $(version crates/registry_c/include/kupaldiz.h)"
 }
 
 # The page of each call is found by its name, and is the one that names it.
 pages_are_found() {
     local call page
-    for call in $(packaging/calls-of.sh "$stage$prefix"/include/kupaldiz/registry{,_limits,_waiting}.h | grep -v '^registry_for_[0-9]'); do
+    for call in $(packaging/calls-of.sh "$stage$prefix"/include/kupaldiz{,_limits,_waiting}.h | grep -v '^kupaldiz_for_[0-9]'); do
         page=$(man -M "$stage$prefix/share/man" -w 3 "$call") && grep -qE "^\.Nm $call( |\$)" "$page" || { echo "no page $call(3)"; return 1; }
     done
 }
@@ -112,10 +112,10 @@ pages_are_found() {
 # The words that a distribution gives reach the compiler and the linker.
 flags_are_taken() {
     local library
-    rm -rf "$top"/out/installed-{netbsd,bench} "$top"/out/{waiting.o,checked-part-*} "$top"/out/libkupaldiz*
+    rm -rf "$top"/out/installed-{netbsd,explorer,waiting,check} "$top"/out/libkupaldiz{,_check,_netbsd,_explorer}.{a,so.*}
     echo 'static const char of_cppflags[] __attribute__((used, section("seen"))) = "CPPFLAGS";' >"$room/seen.h"
     made library CPPFLAGS="-include $room/seen.h" CFLAGS='-O1 -frecord-gcc-switches' LDFLAGS=-Wl,--build-id=0xfeedfeed || return
-    for library in "$top"/out/libkupaldiz{,_netbsd,_bench}.so."$(version)"; do
+    for library in "$top"/out/libkupaldiz{,_netbsd,_explorer}.so."$(version)"; do
         readelf -p seen "$library" | grep CPPFLAGS && readelf -p .GCC.command.line "$library" | grep -e -O1 && readelf -n "$library" | grep feedfeed || return
     done
 }
@@ -124,21 +124,40 @@ flags_are_taken() {
 wanted() {
     local me abi file library
     me=$(id -un) abi=$(abi "$1")
-    for library in libkupaldiz libkupaldiz_netbsd libkupaldiz_bench; do
+    for library in libkupaldiz libkupaldiz_netbsd libkupaldiz_explorer; do
         echo "f 644 $me $libdir/$library.a"
         echo "f 755 $me $libdir/$library.so.$1"
         echo "l 777 $me $libdir/$library.so.$abi -> $library.so.$1"
         echo "l 777 $me $libdir/$library.so -> $library.so.$abi"
     done
-    for file in "$libdir"/libkupaldiz_check.a "$libdir"/pkgconfig/kupaldiz{,-netbsd,-bench}.pc "$libdir"/cmake/kupaldiz/kupaldizConfig{,Version}.cmake \
-        "$prefix"/include/kupaldiz/{registry,registry_limits,registry_waiting,registry_check,bench}.h "$prefix"/share/doc/kupaldiz/VERSIONS.md; do
+    for file in "$libdir"/libkupaldiz_check.a "$libdir"/pkgconfig/kupaldiz{,-check,-netbsd,-explorer}.pc "$libdir"/cmake/kupaldiz/kupaldizConfig{,Version}.cmake \
+        "$prefix"/include/kupaldiz{{,_limits,_waiting,_check,_tsan}.h,/explorer.h} "$prefix"/share/doc/kupaldiz/VERSIONS.md; do
         echo "f 644 $me $file"
     done
     (cd "$top/netbsd/include" && find . -name '*.h') | sed "s|^\.|f 644 $me $prefix/include/kupaldiz/netbsd|"
+    (cd "$room/examples" && find . -type f) | sed "s|^\.|f 644 $me $prefix/share/doc/kupaldiz/examples|"
 }
 
 installed() {
     find "$stage" -type f -printf '%y %m %u /%P\n' -o -type l -printf '%y %m %u /%P -> %l\n' | grep -vF "$prefix/share/man/"
+}
+
+# The examples are built and run over what is installed, where they lie.
+examples_run() {
+    cp -r "$stage$prefix/share/doc/kupaldiz/examples" "$room/run" &&
+        PKG_CONFIG_PATH=$stage$libdir/pkgconfig PKG_CONFIG_SYSROOT_DIR=$stage LD_LIBRARY_PATH=$stage$libdir make -s -C "$room/run" check
+}
+
+# A program whose other file is compiled without the checking build ends at its first open, with a line that says so.
+mixed_build_is_told() {
+    local words
+    words=$(PKG_CONFIG_PATH=$stage$libdir/pkgconfig PKG_CONFIG_SYSROOT_DIR=$stage pkg-config --cflags kupaldiz) && [ "$words" ] || return
+    printf '#include <kupaldiz.h>\nint other;\n' >"$room/other.c"
+    # shellcheck disable=SC2086
+    gcc -c -o "$room/other.o" $words "$room/other.c" && gcc -c -o "$room/own.o" -DKUPALDIZ_CHECK $words c/tests/installed.c &&
+        gcc -o "$room/mixed" "$room"/{own,other}.o -L"$stage$libdir" -lkupaldiz_check -lkupaldiz -pthread || return
+    LD_LIBRARY_PATH=$stage$libdir "$room/mixed" 2>"$room/said"
+    [ $? -eq 134 ] && grep ': kupaldiz_open: a file of the program is compiled without -DKUPALDIZ_CHECK$' "$room/said"
 }
 
 # holds_files VERSION: those files and no others.
@@ -149,7 +168,7 @@ holds_files() {
 # The manual pages, and the names at the head of each of section 3, which lead to it.
 wanted_pages() {
     local page name
-    for page in "$top"/man/registry{.3,_waiting.3,.7} "$top"/man/kupaldiz_*.[37]; do
+    for page in "$top"/man/kupaldiz{,_*}.[37]; do
         echo "${page##*/}"
         [[ $page = *.3 ]] || continue
         for name in $(sed -nE '/^\.Sh NAME/,/^\.Nd/s/^\.Nm ([A-Za-z_0-9]+).*/\1/p' "$page"); do
@@ -215,7 +234,7 @@ copy_top() {
     local copy=$room/a\ copy
     mkdir -p "$copy/out" "$copy/crates/registry_c"
     cp -r Makefile packaging c man netbsd explorer "$copy" || return
-    cp out/libregistry.a "$copy/out" && cp -r crates/registry_c/include "$copy/crates/registry_c"
+    cp out/libkupaldiz_proved.a "$copy/out" && cp -r crates/registry_c/include "$copy/crates/registry_c"
     top=$copy header=$copy/$header
 }
 
@@ -228,21 +247,21 @@ mark() {
 # A function more in each of three sources, and in the archive, as an object beside its own.
 mark_each() {
     : >"$room/archive.c"
-    for source in "$room/archive.c" "$top"/{c/src/waiting.c,netbsd/src/psref.c,explorer/src/show.c}; do
+    for source in "$room/archive.c" "$top"/{c/src/waiting/deferred.c,netbsd/src/psref.c,explorer/src/show.c}; do
         mark "$source" "kupaldiz_mark_of_$(basename "$source" .c)" || return
     done
-    gcc -fPIC -c -o "$room/mark.o" "$room/archive.c" && ar r "$top/out/libregistry.a" "$room/mark.o"
+    gcc -fPIC -c -o "$room/mark.o" "$room/archive.c" && ar r "$top/out/libkupaldiz_proved.a" "$room/mark.o"
 }
 
 # The licence goes into each .pc file, and none is named as long as none is chosen.
 licence_is_told() {
     ! grep -H License "$stage$libdir"/pkgconfig/*.pc || return
-    made install LICENCE=MIT && [ "$(grep -lx 'License: MIT' "$stage$libdir"/pkgconfig/*.pc | wc -l)" -eq 3 ]
+    made install LICENCE=MIT && [ "$(grep -lx 'License: MIT' "$stage$libdir"/pkgconfig/*.pc | wc -l)" -eq 4 ]
 }
 
 # A call that the header declares, and that neither a map nor a library has. Nothing is built anew, as the header looks old.
 unnamed_call_is_told() {
-    sed -i 's/^size_t registry_text(/uint32_t registry_unnamed(void);\n&/' "$header" && touch -d @0 "$header" && ! made symbols >"$room/said" 2>&1 && grep -x '< registry_unnamed' "$room/said"
+    sed -i 's/^const char \*kupaldiz_version(/uint32_t kupaldiz_unnamed(void);\n&/' "$header" && touch -d @0 "$header" && ! made symbols >"$room/said" 2>&1 && grep -x '< kupaldiz_unnamed' "$room/said"
 }
 
 # comes NAME: it is installed there, and goes NAME: it is uninstalled.
@@ -257,24 +276,28 @@ goes() {
     check "$1uninstall leaves nothing" leaves_nothing
 }
 
+check "the examples are laid out" packaging/examples.sh "$room/examples"
 comes ""
 check "pages and folders are open to all" open_to_all
 check "nothing names the place that it was built in" names_no_place
-check "what kupaldiz.pc says" pc_says "-lkupaldiz" "-lkupaldiz -pthread"
-for module in kupaldiz-netbsd kupaldiz-bench; do
-    check "what $module.pc says" pc_says "-l${module/-/_}" "-l${module/-/_} -pthread -lkupaldiz -pthread"
+for module in kupaldiz kupaldiz-netbsd kupaldiz-explorer; do
+    check "what $module.pc says" pc_says "-l${module/-/_}" "-l${module/-/_} -pthread"
 done
+module=kupaldiz-check
+check "what kupaldiz-check.pc says" pc_says "-lkupaldiz_check -lkupaldiz" "-lkupaldiz_check -pthread -lkupaldiz -pthread"
+check "the examples are built and run" examples_run
+check "a program that is checked in part is told so" mixed_build_is_told
 module=kupaldiz
 check "headers, maps and libraries have the same names" made symbols
 check "no folder of headers offers a plain name" offers_no_plain_name
-for library in libkupaldiz libkupaldiz_netbsd libkupaldiz_bench; do
+for library in libkupaldiz libkupaldiz_netbsd libkupaldiz_explorer; do
     check "$library names its soname" has_soname "$library"
     check "$library is hardened" is_hardened "$library"
 done
 for library in libkupaldiz libkupaldiz_netbsd; do
     check "$library takes a shadow stack" takes_shadow_stack $library
 done
-check "libkupaldiz_bench, which switches stacks, takes none" negated takes_shadow_stack libkupaldiz_bench
+check "libkupaldiz_explorer, which switches stacks, takes none" negated takes_shadow_stack libkupaldiz_explorer
 check "a program of the pages' names for other CPUs doesn't link" refused_by_linker
 counted "programs over what is installed" made installcheck
 if command -v cmake >/dev/null; then
@@ -305,10 +328,10 @@ comes "an upgrade: "
 check "the licence is told once it is chosen" licence_is_told
 check "the archive and three sources are changed" mark_each
 check "they are installed anew" made install
-for mark in archive:libkupaldiz waiting:libkupaldiz psref:libkupaldiz_netbsd show:libkupaldiz_bench; do
+for mark in archive:libkupaldiz deferred:libkupaldiz psref:libkupaldiz_netbsd show:libkupaldiz_explorer; do
     check "no stale object is linked: ${mark%:*}" relinked "kupaldiz_mark_of_${mark%:*}" "${mark#*:}"
 done
-check "an upgrade: the later version" sed -i -E 's/^(#define REGISTRY_VERSION_PATCH[[:blank:]]+).*/\17/' "$header"
+check "an upgrade: the later version" sed -i -E 's/^(#define KUPALDIZ_VERSION_PATCH[[:blank:]]+).*/\17/' "$header"
 check "an upgrade: the later version's number" test "$(version)" = "${older%.*}.7"
 comes "an upgrade, over the older one: "
 goes "an upgrade: "

@@ -16,7 +16,7 @@ import subprocess
 import sys
 import tempfile
 
-from engines import said_when_tried
+from engines import MOST_SECONDS, said_when_tried
 from parts import ROOT, ended
 
 sys.path.append(str(ROOT / "crates/registry_run"))
@@ -59,7 +59,7 @@ RUNS = [
 
 
 def said(program, words, **streams):
-    ran = subprocess.run([program, *words], timeout=120, **{"stderr": subprocess.PIPE, **streams})
+    ran = subprocess.run([program, *words], timeout=MOST_SECONDS, **{"stderr": subprocess.PIPE, **streams})
     return ran.returncode, ran.stdout, ran.stderr
 
 

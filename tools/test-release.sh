@@ -60,7 +60,7 @@ inside() {
         mkdir -p "$at/rust"
     fi
     # shellcheck disable=SC2016
-    timeout 1500 unshare --net --mount --pid --fork sh -c '
+    timeout 6000 unshare --net --mount --pid --fork sh -c '
         if [ -n "$3" ]; then mount --bind -o ro "$3" "$1/rust" || exit; fi
         mount -t proc proc "$1/proc" && exec chroot "$1" env -i PATH=/usr/sbin:/usr/bin:/sbin:/bin LC_ALL=C.UTF-8 VERSION="$2" bash -eux -o pipefail /try "$4"' \
         sh "$at" "$version" "${rust-}" "$name"
@@ -80,7 +80,7 @@ tries() {
 again() {
     local kept
     git clone -q . "$1" && mkdir -p "$1/out" "$1/crates/registry_run/out" || return
-    for kept in out/libregistry.{a,proved} out/aarch64/libregistry.{a,proved} crates/registry_run/out/registry_run; do
+    for kept in out/libkupaldiz_proved.{a,proved} out/aarch64/libkupaldiz_proved.{a,proved} crates/registry_run/out/registry_run; do
         [ ! -e "$kept" ] || { mkdir -p "$1/$(dirname "$kept")" && cp "$kept" "$1/$kept"; } || return
     done
     touch "$1/crates/registry_run/out/registry_run"

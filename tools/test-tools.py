@@ -19,7 +19,7 @@ from parts import ended
 from tests.programs import PROVED
 from tests.trees import CASES, WRITING, lay, said_by, spoil
 
-for _module in ("documents", "sources", "gates", "refusals", "libraries", "releases"):
+for _module in ("documents", "sources", "gates", "packages", "refusals", "libraries", "releases"):
     importlib.import_module(f"tests.{_module}")
 # What only a release or a session by hand runs.
 BY_HAND = ("make-release", "packaging's scripts", "build-archive, other limits", "mutants", "try-edits")

@@ -8,12 +8,12 @@
 #include <stdlib.h>
 
 /* Ends the program with status 1 where a condition doesn't hold, and says which. */
-#define EXPECT(condition)                                                                                                          \
-	do {                                                                                                                       \
-		if (!(condition)) {                                                                                                \
-			fprintf(stderr, "%s:%d: not so: %s\n", __FILE__, __LINE__, #condition);                                    \
-			exit(1);                                                                                                   \
-		}                                                                                                                  \
+#define EXPECT(condition)									\
+	do {											\
+		if (!(condition)) {								\
+			fprintf(stderr, "%s:%d: not so: %s\n", __FILE__, __LINE__, #condition);	\
+			exit(1);								\
+		}										\
 	} while (0)
 
 #endif

@@ -1,49 +1,42 @@
 /*
- * smallest - a whole program on one page: it opens a registry with two CPUs, attaches an entry, gets a reference to it and releases it, takes the entry
- * away and closes the registry
+ * smallest - a whole program on one page: it opens a registry with two CPUs, attaches an entry,
+ * gets a reference to it and releases it, takes the entry away and closes the registry
  */
 #include <inttypes.h>
 #include <stdio.h>
 #include <stdlib.h>
-#include <string.h>
 
-#include "registry.h"
+#include "kupaldiz.h"
 
-static void check(const char *call, registry_answer answer)
+static void check(const char *call, enum kupaldiz_result result)
 {
-	if (answer == REGISTRY_DONE)
+	if (result == KUPALDIZ_DONE)
 		return;
-	fprintf(stderr, "%s: %s\n", call, registry_strerror(answer));
+	fprintf(stderr, "%s: %s\n", call, kupaldiz_strerror(result));
 	exit(1);
 }
 
 int main(void)
 {
-	const struct registry_settings settings = {
-	    .cpus = 2,
-	    .slots = 4,
-	    .change_limit = REGISTRY_MOST_CHANGES,
-	    .section_limit = REGISTRY_MOST_SECTIONS,
-	    .passive_limit = REGISTRY_MOST_COUNT,
-	    .count_limit = REGISTRY_MOST_COUNT,
-	};
-	struct registry_keeper keeper = {0};
-	struct registry_cpu cpus[2] = {0}; /* one for each thread: [0] looks up, [1] makes changes */
-	struct registry_name name;
-	struct registry_entry found;
+	const struct kupaldiz_settings settings = KUPALDIZ_SETTINGS(2, 4);
+	struct kupaldiz_keeper keeper = {0};
+	struct kupaldiz_cpu cpus[2] = {0};	/* one for each thread: [1] makes the changes */
+	struct kupaldiz_passive reference = {0};
+	struct kupaldiz_entry gone;
+	struct kupaldiz_name name;
 
-	check("open", registry_open(&settings, &keeper, cpus, 2));
-	check("name", registry_name_parse("wm0", strlen("wm0"), &name, NULL));
-	check("attach", registry_attach(&keeper, &cpus[1], &name, 1500, NULL));
+	check("open", kupaldiz_open(&settings, &keeper, cpus, 2));
+	check("name", kupaldiz_name_of_bytes("wm0", 3, &name));
+	check("attach", kupaldiz_attach(&keeper, &cpus[1], &name, 1500, NULL));
 
 	/* Until the release the thread may sleep, and use the memory that a value points to. */
-	check("get", registry_get(&cpus[0], REGISTRY_DRIVER, &name, &found));
-	printf("wm0 has value %" PRIu64 "\n", found.value);
-	check("release", registry_release(&cpus[0], found.number));
+	check("get", kupaldiz_get(&cpus[0], KUPALDIZ_ENTRY, &name, &reference));
+	printf("wm0 has value %" PRIu64 "\n", reference.entry.value);
+	check("release", kupaldiz_release(&cpus[0], &reference));
 
-	/* Nothing holds the entry. Else repeat the destroy while it returns REGISTRY_STILL_HELD. */
-	check("detach", registry_detach(&keeper, &cpus[1], REGISTRY_DRIVER, &name, &found));
-	check("destroy", registry_destroy(&keeper, &cpus[1], found.number, NULL));
-	check("close", registry_close(cpus, 2, &keeper));
+	/* Nothing holds the entry. Else the destroy is repeated while it is KUPALDIZ_STILL_HELD. */
+	check("detach", kupaldiz_detach(&keeper, &cpus[1], KUPALDIZ_ENTRY, &name, &gone));
+	check("destroy", kupaldiz_destroy(&keeper, gone.number, NULL));
+	check("close", kupaldiz_close(&keeper, cpus, 2));
 	return 0;
 }

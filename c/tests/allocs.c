@@ -1,5 +1,6 @@
 /*
- * allocs - the three functions of heap.c: what each asks of malloc, realloc and free, and what it makes of the result
+ * allocs - the three functions of heap.c: what each asks of malloc, realloc and free, and what it
+ * makes of the result
  *
  * It is linked with heap.c itself, and with --wrap for malloc, realloc and free.
  */
@@ -43,7 +44,8 @@ void __wrap_free(void *block)
 /* The memory that there is, or a place that is not NULL where there is none. */
 static void expect_block(struct block block, size_t size)
 {
-	EXPECT(asked == size && block.had == has_memory && (has_memory ? block.at == memory : block.at != NULL));
+	EXPECT(asked == size && block.had == has_memory);
+	EXPECT(has_memory ? block.at == memory : block.at != NULL);
 }
 
 /* No bytes are asked for as the least, and all else as it is. */

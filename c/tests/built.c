@@ -1,109 +1,106 @@
 /*
- * built - what the library says of its build: its version, and its limits, which are those that its calls have
+ * built - what the library says of its build: its version, and its limits, which are those that its
+ * calls have
  *
- * registry_limits.h is made of the limits that the library was proved for. Here each of them is met: what it allows is done, and one more is refused.
+ * kupaldiz_limits.h is made of the limits that the library was proved for. Here each of them is
+ * met: what it allows is done, and one more is refused.
  */
 #include "client.h"
 
-static const struct registry_limits LIMITS = REGISTRY_LIMITS;
-static const struct registry_settings SMALL = {1, 1, 1, 1, 1, 1};
+static const struct kupaldiz_limits LIMITS = KUPALDIZ_LIMITS;
+static const struct kupaldiz_settings SMALL = {1, 1, 1, 1, 1, 1};
 
-static struct registry_keeper keeper;
-static struct registry_cpu cpus[REGISTRY_MOST_CPUS];
+static struct kupaldiz_keeper keeper;
+static struct kupaldiz_cpu cpus[KUPALDIZ_MOST_CPUS];
 
 /* The version is the header's, and the same string each time. */
 static void test_version(void)
 {
 	char text[40];
-	snprintf(text, sizeof text, "%d.%d.%d", REGISTRY_VERSION_MAJOR, REGISTRY_VERSION_MINOR, REGISTRY_VERSION_PATCH);
-	EXPECT(strcmp(registry_version(), text) == 0 && registry_version() == registry_version());
+	snprintf(text, sizeof text, "%d.%d.%d", KUPALDIZ_VERSION_MAJOR, KUPALDIZ_VERSION_MINOR,
+	    KUPALDIZ_VERSION_PATCH);
+	EXPECT(strcmp(kupaldiz_version(), text) == 0 && kupaldiz_version() == kupaldiz_version());
 }
 
 static void test_limits(void)
 {
-	struct registry_limits limits;
+	struct kupaldiz_limits limits;
 	memset(&limits, 0, sizeof limits);
-	registry_limits(NULL);
-	registry_limits(&limits);
+	kupaldiz_limits(NULL);
+	kupaldiz_limits(&limits);
 	EXPECT(memcmp(&limits, &LIMITS, sizeof limits) == 0);
 }
 
-/* One more of a limit, and one less, is another build. */
-static void test_other(size_t place)
+/* One more of any limit, and one less, is another build. */
+static void test_comparison(void)
 {
-	for (int by = -1; by <= 1; by += 2) {
-		struct registry_limits other = LIMITS;
-		uint64_t *limit = (uint64_t *)(void *)((char *)&other + place);
-		*limit += (uint64_t)by;
-		EXPECT(REGISTRY_BUILT_FOR(&other) == REGISTRY_OTHER_LIMITS);
+	DONE(KUPALDIZ_BUILT_FOR(&LIMITS));
+	IS(NULL, KUPALDIZ_BUILT_FOR(NULL));
+	for (size_t place = 0; place < 2 * sizeof LIMITS / sizeof(uint64_t); place++) {
+		uint64_t words[sizeof LIMITS / sizeof(uint64_t)];
+		struct kupaldiz_limits other;
+		memcpy(words, &LIMITS, sizeof words);
+		words[place / 2] += place % 2 == 0 ? 1 : UINT64_MAX;
+		memcpy(&other, words, sizeof other);
+		IS(OTHER_LIMITS, KUPALDIZ_BUILT_FOR(&other));
 	}
 }
 
-static void test_comparison(void)
+static enum kupaldiz_result opened(const struct kupaldiz_settings *settings, size_t count)
 {
-	DONE(REGISTRY_BUILT_FOR(&LIMITS));
-	EXPECT(REGISTRY_BUILT_FOR(NULL) == REGISTRY_NULL);
-	for (size_t place = 0; place < sizeof(struct registry_limits); place += sizeof(uint64_t))
-		test_other(place);
+	enum kupaldiz_result result = kupaldiz_open(settings, &keeper, cpus, count);
+	if (result == KUPALDIZ_DONE)
+		DONE(kupaldiz_close(&keeper, cpus, count));
+	return result;
 }
 
-static registry_answer opened(const struct registry_settings *settings, size_t count)
-{
-	registry_answer answer = registry_open(settings, &keeper, cpus, count);
-	if (answer == REGISTRY_DONE)
-		DONE(registry_close(cpus, count, &keeper));
-	return answer;
-}
-
-/* A setting is at least 1 and at most so much. */
-static void test_most(size_t place, uint64_t most, bool cpus_too)
+/* The setting at this place is at least 1 and at most so much. */
+static void test_most(size_t place, uint64_t most)
 {
 	const uint64_t bad[] = {0, most + 1, UINT64_MAX};
-	struct registry_settings settings = SMALL;
-	uint64_t *setting = (uint64_t *)(void *)((char *)&settings + place);
-	size_t count = cpus_too ? (size_t)most : 1;
-	*setting = most;
+	const size_t count = place == 0 ? (size_t)most : 1;
+	uint64_t words[sizeof SMALL / sizeof(uint64_t)];
+	struct kupaldiz_settings settings;
+	memcpy(words, &SMALL, sizeof words);
+	words[place] = most;
+	memcpy(&settings, words, sizeof settings);
 	DONE(opened(&settings, count));
-	for (unsigned i = 0; i < sizeof bad / sizeof *bad; i++) {
-		*setting = bad[i];
-		EXPECT(opened(&settings, count) == REGISTRY_BAD_SETTINGS && opened(&settings, 0) == REGISTRY_BAD_SETTINGS);
+	for (size_t i = 0; i < COUNT_OF(bad); i++) {
+		words[place] = bad[i];
+		memcpy(&settings, words, sizeof settings);
+		IS(BAD_SETTINGS, opened(&settings, count));
+		IS(BAD_SETTINGS, opened(&settings, 0));
 	}
 }
 
 static void test_settings(void)
 {
-	static const uint64_t most[] = {REGISTRY_MOST_CPUS, REGISTRY_MOST_SLOTS, REGISTRY_MOST_CHANGES, REGISTRY_MOST_SECTIONS, REGISTRY_MOST_COUNT,
-	    REGISTRY_MOST_COUNT};
-	const struct registry_settings many = {258, 4, 100, 100, 10, 10};
-	for (size_t i = 0; i < sizeof most / sizeof *most; i++)
-		test_most(i * sizeof(uint64_t), most[i], i == 0);
-	EXPECT(opened(&many, 2) == REGISTRY_BAD_SETTINGS);
-}
-
-/* What an opening is refused for, one wrong thing before the next: it opens nothing. */
-static void test_openings(void)
-{
-	const struct registry_settings two = {2, 1, 1, 1, 1, 1}, none = {0};
-	struct registry_keeper other = {0};
-	EXPECT(registry_open(NULL, &keeper, cpus, 2) == REGISTRY_NULL && registry_open(NULL, &keeper, NULL, 0) == REGISTRY_NULL);
-	EXPECT(registry_open(&two, &keeper, NULL, 2) == REGISTRY_NULL && registry_open(&none, &keeper, NULL, 1) == REGISTRY_NULL);
-	EXPECT(opened(&two, 1) == REGISTRY_MISSING_CPU && opened(&two, 3) == REGISTRY_MISSING_CPU);
-	EXPECT(registry_open(&two, &keeper, NULL, 0) == REGISTRY_MISSING_CPU);
-	EXPECT(registry_close_keeper(&keeper) == REGISTRY_EMPTY_HANDLE && registry_close_cpu(&cpus[0]) == REGISTRY_EMPTY_HANDLE);
-	DONE(registry_open(&two, &keeper, cpus, 2));
-	EXPECT(registry_open(NULL, &keeper, cpus, 2) == REGISTRY_NULL && registry_open(&two, &keeper, NULL, 2) == REGISTRY_NULL);
-	EXPECT(registry_open(&none, &keeper, cpus, 2) == REGISTRY_BAD_SETTINGS && registry_open(&two, &keeper, cpus, 1) == REGISTRY_MISSING_CPU);
-	EXPECT(registry_open(&two, &keeper, cpus, 2) == REGISTRY_FULL_HANDLE && registry_open(&two, &other, cpus, 2) == REGISTRY_FULL_HANDLE);
-	EXPECT(registry_close_keeper(&other) == REGISTRY_EMPTY_HANDLE);
-	DONE(registry_close(cpus, 2, &keeper));
+	static const uint64_t most[] = {KUPALDIZ_MOST_CPUS, KUPALDIZ_MOST_SLOTS,
+	    KUPALDIZ_MOST_CHANGES, KUPALDIZ_MOST_SECTIONS, KUPALDIZ_MOST_COUNT,
+	    KUPALDIZ_MOST_COUNT};
+	const struct kupaldiz_settings many = {258, 4, 100, 100, 10, 10};
+	const struct kupaldiz_settings largest =
+	    KUPALDIZ_SETTINGS(KUPALDIZ_MOST_CPUS, KUPALDIZ_MOST_SLOTS);
+	struct kupaldiz_settings told;
+	for (size_t i = 0; i < COUNT_OF(most); i++)
+		test_most(i, most[i]);
+	IS(BAD_SETTINGS, opened(&many, 2));
+	EXPECT(memcmp(&largest, most, sizeof largest) == 0);
+	DONE(kupaldiz_open(&largest, &keeper, cpus, KUPALDIZ_MOST_CPUS));
+	DONE(kupaldiz_settings_of(&keeper, &told));
+	EXPECT(memcmp(&told, &largest, sizeof told) == 0);
+	DONE(kupaldiz_close(&keeper, cpus, KUPALDIZ_MOST_CPUS));
 }
 
 /* The name is a macro: an argument may have commas in braces, and the address is a function's. */
 static void test_forms(void)
 {
-	registry_answer (*const open)(const struct registry_settings *, struct registry_keeper *, struct registry_cpu *, size_t) = registry_open;
-	EXPECT(registry_open(&(const struct registry_settings){.cpus = 0, .slots = 1}, &keeper, cpus, 0) == REGISTRY_BAD_SETTINGS);
-	EXPECT(open(&(const struct registry_settings){.cpus = 0, .slots = 1}, &keeper, cpus, 0) == REGISTRY_BAD_SETTINGS);
+	enum kupaldiz_result (*const open)(const struct kupaldiz_settings *,
+	    struct kupaldiz_keeper *, struct kupaldiz_cpu *, size_t) = kupaldiz_open;
+	IS(BAD_SETTINGS, kupaldiz_open(&(const struct kupaldiz_settings){.cpus = 0, .slots = 1},
+	    &keeper, cpus, 0));
+	IS(BAD_SETTINGS, open(&(const struct kupaldiz_settings){.cpus = 0, .slots = 1}, &keeper,
+	    cpus, 0));
 }
 
 int main(void)
@@ -112,8 +109,8 @@ int main(void)
 	test_limits();
 	test_comparison();
 	test_settings();
-	test_openings();
 	test_forms();
-	printf("version %s, built for %d CPUs and %d slots\n", registry_version(), REGISTRY_MOST_CPUS, REGISTRY_MOST_SLOTS);
+	printf("version %s, built for %d CPUs and %d slots\n", kupaldiz_version(),
+	    KUPALDIZ_MOST_CPUS, KUPALDIZ_MOST_SLOTS);
 	return 0;
 }

@@ -1,62 +1,69 @@
 /*
  * checked - what the checking build tells of a program's misuse, and what it says nothing of
  *
- * Each row runs in a process of its own, which prints these lines and ends so: by an abort after a misuse. AT notes the line of a call.
+ * Each row runs in a process of its own, which prints these lines and ends so: by an abort after a
+ * misuse. AT notes the line of a call.
  */
 #define _DEFAULT_SOURCE
-#include <pthread.h>
 #include <signal.h>
 #include <stdatomic.h>
 #include <sys/mman.h>
+#include <sys/syscall.h>
 
-#include "../../netbsd/tests/child.h"
+#include "child.h"
 #include "client.h"
-#include "waiting.h"
+#include "kupaldiz_waiting.h"
 
-static const struct registry_settings SETTINGS = {2, 4, 100, 100, 10, 10};
+static const struct kupaldiz_settings SETTINGS = {2, 4, 100, 100, 10, 10};
 
 static struct bench {
-	struct registry_keeper keeper;
-	struct registry_cpu cpus[2];
+	struct kupaldiz_keeper keeper;
+	struct kupaldiz_cpu cpus[2];
 } one, two;
 
-static pthread_mutex_t interlock = PTHREAD_MUTEX_INITIALIZER;
-static struct registry_lock lock;	/* by that mutex */
-static struct registry_name wm, wm0;
-static struct registry_entry found;
-static struct registry_local local;
+static pthread_mutex_t mutex = PTHREAD_MUTEX_INITIALIZER;
+static struct kupaldiz_interlock interlock;	/* of one.keeper, by that mutex */
+static struct kupaldiz_name wm, wm0;
+static struct kupaldiz_entry found;
+static struct kupaldiz_passive passive;
+static struct kupaldiz_local local;
 static int *lines;	/* of calls, and the child's thread: the parent sees them */
 static atomic_bool is_there;
 
-#define AT(place, call) (lines[place] = __LINE__, (call))
+#define AT(place, call)	(lines[place] = __LINE__, (call))
 
-enum { THREAD = 7 };
+/*
+ * Which of them is the child's thread, and the seconds after which a process that hangs is ended.
+ */
+enum { THREAD = 7, PATIENCE = 600 };
 
 /* What a find does before the library's. */
 static void (*before_find)(void);
-registry_answer __real_registry_find(struct registry_cpu *cpu, uint64_t kind, const struct registry_name *name, struct registry_entry *entry);
-registry_answer __wrap_registry_find(struct registry_cpu *cpu, uint64_t kind, const struct registry_name *name, struct registry_entry *entry);
-registry_answer __wrap_registry_find(struct registry_cpu *cpu, uint64_t kind, const struct registry_name *name, struct registry_entry *entry)
+enum kupaldiz_result __real_kupaldiz_find(struct kupaldiz_cpu *cpu, enum kupaldiz_kind kind,
+    const struct kupaldiz_name *name, struct kupaldiz_entry *entry);
+enum kupaldiz_result __wrap_kupaldiz_find(struct kupaldiz_cpu *cpu, enum kupaldiz_kind kind,
+    const struct kupaldiz_name *name, struct kupaldiz_entry *entry);
+enum kupaldiz_result __wrap_kupaldiz_find(struct kupaldiz_cpu *cpu, enum kupaldiz_kind kind,
+    const struct kupaldiz_name *name, struct kupaldiz_entry *entry)
 {
 	if (before_find != NULL)
 		before_find();
-	return __real_registry_find(cpu, kind, name, entry);
+	return __real_kupaldiz_find(cpu, kind, name, entry);
 }
 
 static void open_both(void)
 {
-	alarm(20);
+	alarm(PATIENCE);
 	lines[THREAD] = (int)getpid();
-	DONE(AT(8, registry_open(&SETTINGS, &one.keeper, one.cpus, 2)));
-	DONE(AT(9, registry_open(&SETTINGS, &two.keeper, two.cpus, 2)));
-	DONE(registry_attach(&one.keeper, &one.cpus[0], &wm, 7, NULL));
+	DONE(AT(8, kupaldiz_open(&SETTINGS, &one.keeper, one.cpus, 2)));
+	DONE(AT(9, kupaldiz_open(&SETTINGS, &two.keeper, two.cpus, 2)));
+	DONE(kupaldiz_attach(&one.keeper, &one.cpus[0], &wm, 7, NULL));
 }
 
 /* Leaves a thread behind that has made this, and stays. */
 static void beside(void *(*body)(void *))
 {
-	pthread_t thread;
-	EXPECT(pthread_create(&thread, NULL, body, NULL) == 0);
+	started(body, NULL);
 	while (!atomic_load(&is_there))
 		rest();
 }
@@ -68,171 +75,259 @@ static void stay(void)
 		rest();
 }
 
-static void acquire_local(struct registry_local *of)
+static void get_local(struct kupaldiz_local *to)
 {
-	DONE(registry_enter(&one.cpus[0]));
-	DONE(registry_find(&one.cpus[0], REGISTRY_DRIVER, &wm, NULL));
-	DONE(registry_local_acquire(&one.cpus[0], of));
-	DONE(registry_exit(&one.cpus[0]));
+	DONE(kupaldiz_get_local(&one.cpus[0], KUPALDIZ_ENTRY, &wm, to));
+}
+
+static void detach(void)
+{
+	DONE(kupaldiz_detach(&one.keeper, &one.cpus[0], KUPALDIZ_ENTRY, &wm, &found));
 }
 
 /* ---- Passive references. ---- */
 
-/* More are released before than the checking build remembers. */
-static void released_twice(void)
+/*
+ * More are released before than the checking build remembers. The place of the last release is 0.
+ */
+static struct kupaldiz_passive released(void)
 {
+	struct kupaldiz_cpu *cpu = &one.cpus[0];
 	for (int i = 0; i < 5000; i++) {
-		DONE(registry_get(&one.cpus[0], REGISTRY_DRIVER, &wm, &found));
-		DONE(registry_release(&one.cpus[0], found.number));
+		DONE(kupaldiz_get(cpu, KUPALDIZ_ENTRY, &wm, &passive));
+		DONE(kupaldiz_release(cpu, &passive));
 	}
-	DONE(registry_get(&one.cpus[0], REGISTRY_DRIVER, &wm, &found));
-	DONE(AT(0, registry_release(&one.cpus[0], found.number)));
-	acquire_local(&local);
-	DONE(registry_local_release(&one.cpus[0], &local));
-	AT(1, registry_release(&one.cpus[0], found.number));
+	DONE(kupaldiz_get(cpu, KUPALDIZ_ENTRY, &wm, &passive));
+	const struct kupaldiz_passive copy = passive;
+	DONE(AT(0, kupaldiz_release(cpu, &passive)));
+	IS(EMPTY_HANDLE, kupaldiz_release(cpu, &passive));
+	get_local(&local);
+	DONE(kupaldiz_try_release_local(cpu, &local));
+	return copy;
 }
 
+static void released_twice(void)
+{
+	passive = released();
+	AT(1, kupaldiz_release(&one.cpus[0], &passive));
+}
+
+/* It is made again, so it has no tag. */
 static void released_twice_beside(void)
 {
-	DONE(AT(2, registry_get(&one.cpus[1], REGISTRY_DRIVER, &wm, &found)));
-	released_twice();
+	struct kupaldiz_passive another = {0};
+	DONE(AT(2, kupaldiz_get(&one.cpus[1], KUPALDIZ_ENTRY, &wm, &another)));
+	released();
+	passive = (struct kupaldiz_passive){{.number = another.entry.number}, 0};
+	AT(1, kupaldiz_release(&one.cpus[0], &passive));
+}
+
+/* The library can't know it: the CPU has another one. */
+static void taken_from_another(void)
+{
+	struct kupaldiz_cpu *cpu = &one.cpus[0];
+	struct kupaldiz_passive another = {0}, copy;
+	DONE(kupaldiz_get(cpu, KUPALDIZ_ENTRY, &wm, &passive));
+	DONE(kupaldiz_copy(cpu, &passive, &another));
+	copy = passive;
+	DONE(AT(0, kupaldiz_release(cpu, &passive)));
+	AT(1, kupaldiz_release(cpu, &copy));
+}
+
+static void copied_afterwards(void)
+{
+	struct kupaldiz_cpu *cpu = &one.cpus[0];
+	struct kupaldiz_passive another = {0}, copy;
+	DONE(kupaldiz_enter_find(cpu, KUPALDIZ_ENTRY, &wm, &found));
+	DONE(kupaldiz_acquire(cpu, &found, &passive));
+	copy = passive;
+	DONE(AT(0, kupaldiz_release(cpu, &passive)));
+	(void)!AT(1, kupaldiz_copy(cpu, &copy, &another));
 }
 
 static void released_elsewhere(void)
 {
-	DONE(registry_enter_find(&one.cpus[0], REGISTRY_DRIVER, &wm, &found));
-	DONE(AT(0, registry_acquire(&one.cpus[0], NULL)));
-	AT(1, registry_release(&one.cpus[1], found.number));
+	DONE(kupaldiz_enter_find(&one.cpus[0], KUPALDIZ_ENTRY, &wm, &found));
+	DONE(AT(0, kupaldiz_acquire(&one.cpus[0], &found, &passive)));
+	AT(1, kupaldiz_release(&one.cpus[1], &passive));
 }
 
 static void released_to_another(void)
 {
-	DONE(registry_enter_find(&one.cpus[0], REGISTRY_DRIVER, &wm, &found));
-	EXPECT(registry_find(&one.cpus[0], REGISTRY_DRIVER, &wm0, NULL) == REGISTRY_NOT_FOUND);
-	DONE(AT(0, registry_acquire_entry(&one.cpus[0], &found)));
-	AT(1, registry_release(&two.cpus[0], found.number));
+	DONE(AT(0, kupaldiz_get(&one.cpus[0], KUPALDIZ_ENTRY, &wm, &passive)));
+	AT(1, kupaldiz_release(&two.cpus[0], &passive));
 }
 
 static void never_acquired(void)
 {
-	acquire_local(&local);
-	AT(0, registry_release(&one.cpus[0], 1));
+	passive = (struct kupaldiz_passive){{.number = 1}, 0};
+	get_local(&local);
+	AT(0, kupaldiz_release(&one.cpus[0], &passive));
 }
 
 static void left_behind(void)
 {
-	struct registry_threads threads = {0};
-	struct registry_cpu *cpu;
-	DONE(registry_threads_open(&threads, one.cpus, 2));
-	DONE(registry_thread_register(&threads, NULL, &cpu));
-	DONE(AT(0, registry_get(cpu, REGISTRY_DRIVER, &wm, &found)));
-	AT(1, registry_thread_unregister(&threads));
+	struct kupaldiz_pool pool = {0};
+	struct kupaldiz_cpu *cpu;
+	DONE(kupaldiz_pool_open(&pool, one.cpus, 2));
+	DONE(kupaldiz_pool_take(&pool, NULL, &cpu));
+	DONE(AT(0, kupaldiz_get(cpu, KUPALDIZ_ENTRY, &wm, &passive)));
+	AT(1, kupaldiz_pool_give(&pool));
 }
 
-/* From here on each reference has a tag. */
-#undef REGISTRY_CHECK
-#define REGISTRY_CHECK	2
-
-static void taken_from_another(void)
-{
-	struct registry_entry another;
-	DONE(registry_get(&one.cpus[0], REGISTRY_DRIVER, &wm, &found));
-	DONE(registry_get(&one.cpus[0], REGISTRY_DRIVER, &wm, &another));
-	EXPECT(found.number != another.number && (uint32_t)found.number == (uint32_t)another.number);
-	DONE(AT(0, registry_release(&one.cpus[0], found.number)));
-	DONE(registry_read(&one.cpus[0], another.number, NULL));
-	AT(1, registry_release(&one.cpus[0], found.number));
-}
-
-static void read_afterwards(void)
-{
-	uint64_t number;
-	DONE(registry_enter_find(&one.cpus[0], REGISTRY_DRIVER, &wm, &found));
-	DONE(registry_acquire(&one.cpus[0], NULL));
-	DONE(registry_acquire(&one.cpus[0], &number));
-	DONE(registry_copy(&one.cpus[0], number));
-	DONE(registry_release(&one.cpus[0], number));
-	DONE(AT(0, registry_release(&one.cpus[0], number)));
-	AT(1, registry_read(&one.cpus[0], number, NULL));
-}
-
-#undef REGISTRY_CHECK
-#define REGISTRY_CHECK	1
-
-/* ---- Handles. ---- */
+/* ---- Local references. ---- */
 
 static void local_twice(void)
 {
-	acquire_local(&local);
-	struct registry_local copy = local, another = {0};
-	DONE(AT(0, registry_local_release(&one.cpus[1], &local)));
+	get_local(&local);
+	struct kupaldiz_local copy = local, another = {0};
+	DONE(AT(0, kupaldiz_try_release_local(&one.cpus[1], &local)));
+	IS(EMPTY_HANDLE, kupaldiz_try_release_local(&one.cpus[1], &local));
 	/* The library reuses the memory of the first one. */
-	acquire_local(&another);
-	(void)!AT(1, registry_local_release(&one.cpus[1], &copy));
+	get_local(&another);
+	(void)!AT(1, kupaldiz_try_release_local(&one.cpus[1], &copy));
 }
 
-static void local_given(void)
+static void local_copied_afterwards(void)
 {
-	DONE(registry_enter_find(&one.cpus[0], REGISTRY_DRIVER, &wm, &found));
-	EXPECT(registry_find(&one.cpus[0], REGISTRY_DRIVER, &wm0, NULL) == REGISTRY_NOT_FOUND);
-	DONE(registry_local_acquire_entry(&one.cpus[0], &found, &local));
-	DONE(registry_exit(&one.cpus[0]));
-	struct registry_local copy = local;
-	DONE(AT(0, registry_attach_iface(&one.keeper, &one.cpus[0], &local, &wm0, 8, NULL)));
-	AT(1, registry_local_read(&copy, NULL));
+	struct kupaldiz_local copy = {0}, moved;
+	get_local(&local);
+	DONE(kupaldiz_copy_local(&local, &copy));
+	moved = local;
+	DONE(AT(0, kupaldiz_forget_local(&local)));
+	(void)!AT(1, kupaldiz_copy_local(&moved, &local));
 }
+
+/* ---- Handles. ---- */
 
 static void never_set(void)
 {
-	struct registry_cpu unset = {&found};
-	(void)!AT(0, registry_enter(&unset));
+	struct kupaldiz_cpu unset = {&found};
+	(void)!AT(0, kupaldiz_enter(&unset));
 }
 
 static void no_pointer(void)
 {
-	struct registry_keeper *none = NULL;
-	(void)!AT(0, registry_attach(none, &one.cpus[0], &wm0, 7, NULL));
+	struct kupaldiz_keeper *none = NULL;
+	(void)!AT(0, kupaldiz_attach(none, &one.cpus[0], &wm0, 7, NULL));
+}
+
+static void no_place(void)
+{
+	struct kupaldiz_passive *none = NULL;
+	(void)!AT(0, kupaldiz_get(&one.cpus[0], KUPALDIZ_ENTRY, &wm, none));
 }
 
 static void closed_copy(void)
 {
-	struct registry_cpu copy = one.cpus[1];
-	AT(0, registry_close_cpu(&one.cpus[1]));
-	AT(1, registry_inside(&copy, NULL));
+	struct kupaldiz_cpu copy = one.cpus[1];
+	AT(0, kupaldiz_close(NULL, &one.cpus[1], 1));
+	AT(1, kupaldiz_depth(&copy, NULL));
 }
 
 /* A wait is told as the program's call. */
 static void closed_registry(void)
 {
-	struct registry_keeper copy = one.keeper;
-	AT(0, registry_close(one.cpus, 2, &one.keeper));
-	(void)!AT(1, registry_perform_wait(&lock, &copy, &two.cpus[0], NULL, NULL));
+	struct kupaldiz_keeper copy = one.keeper;
+	const struct kupaldiz_interlock of_copy = kupaldiz_interlock_of_mutex(&copy, &mutex);
+	AT(0, kupaldiz_close(&one.keeper, one.cpus, 2));
+	(void)!AT(1, kupaldiz_perform_wait(&of_copy, &two.cpus[0], NULL, NULL));
 }
 
 static void two_registries(void)
 {
-	(void)!AT(0, registry_attach(&one.keeper, &two.cpus[0], &wm0, 7, NULL));
+	(void)!AT(0, kupaldiz_attach(&one.keeper, &two.cpus[0], &wm0, 7, NULL));
 }
 
 static void *find_and_stay(void *of)
 {
 	before_find = stay;
-	DONE(registry_enter(&one.cpus[0]));
-	(void)!AT(0, registry_find(&one.cpus[0], REGISTRY_DRIVER, &wm, NULL));
+	DONE(kupaldiz_enter(&one.cpus[0]));
+	(void)!AT(0, kupaldiz_find(&one.cpus[0], KUPALDIZ_ENTRY, &wm, NULL));
 	return of;
 }
 
 static void two_threads(void)
 {
-	struct registry_cpu moved = one.cpus[0];
+	struct kupaldiz_cpu moved = one.cpus[0];
 	beside(find_and_stay);
-	AT(1, registry_depth(&moved, NULL));
+	AT(1, kupaldiz_depth(&moved, NULL));
+}
+
+/* Neither is in a call while the other one makes one. */
+static void *find_inside(void *of)
+{
+	(void)!AT(1, kupaldiz_find(&one.cpus[0], KUPALDIZ_ENTRY, &wm, NULL));
+	return of;
+}
+
+static void two_threads_in_a_section(void)
+{
+	DONE(AT(0, kupaldiz_enter(&one.cpus[0])));
+	joined(started(find_inside, NULL));
+}
+
+static void *look_up_often(void *of)
+{
+	for (;;)
+		DONE(AT(0, kupaldiz_look_up(&one.cpus[0], KUPALDIZ_ENTRY, &wm, NULL)));
+	return of;
+}
+
+static void two_threads_without_a_lock(void)
+{
+	started(look_up_often, NULL);
+	look_up_often(NULL);
+}
+
+static void *attach_often(void *of)
+{
+	for (;;)
+		DONE(AT(0, kupaldiz_settings_of(&one.keeper, NULL)));
+	return of;
+}
+
+static void changes_without_a_lock(void)
+{
+	started(attach_often, NULL);
+	attach_often(NULL);
+}
+
+static void *end_inside(void *of)
+{
+	DONE(AT(0, kupaldiz_enter(&one.cpus[0])));
+	lines[THREAD] = (int)syscall(SYS_gettid);
+	return of;
+}
+
+static void ended_inside(void)
+{
+	joined(started(end_inside, NULL));
+}
+
+static void *end_holding(void *of)
+{
+	DONE(AT(0, kupaldiz_get(&one.cpus[0], KUPALDIZ_ENTRY, &wm, &passive)));
+	lines[THREAD] = (int)syscall(SYS_gettid);
+	return of;
+}
+
+static void ended_holding(void)
+{
+	joined(started(end_holding, NULL));
+}
+
+static void waits_for_own(void)
+{
+	DONE(AT(0, kupaldiz_get(&one.cpus[0], KUPALDIZ_ENTRY, &wm, &passive)));
+	detach();
+	(void)!AT(1, kupaldiz_destroy_wait(&interlock, &one.cpus[1], found.number, NULL, NULL));
 }
 
 static void handle_signal(int number)
 {
 	(void)number;
-	AT(1, registry_depth(&one.cpus[1], NULL));
+	AT(1, kupaldiz_depth(&one.cpus[1], NULL));
 }
 
 static void raise_signal(void)
@@ -245,8 +340,8 @@ static void in_a_signal(void)
 	const struct sigaction action = {.sa_handler = handle_signal};
 	EXPECT(sigaction(SIGUSR1, &action, NULL) == 0);
 	before_find = raise_signal;
-	DONE(registry_enter(&one.cpus[0]));
-	(void)!AT(0, registry_find(&one.cpus[0], REGISTRY_DRIVER, &wm, NULL));
+	DONE(kupaldiz_enter(&one.cpus[0]));
+	(void)!AT(0, kupaldiz_find(&one.cpus[0], KUPALDIZ_ENTRY, &wm, NULL));
 }
 
 static void in_a_child(void)
@@ -254,9 +349,9 @@ static void in_a_child(void)
 	int status;
 	pid_t child = fork();
 	EXPECT(child >= 0);
-	alarm(20);
+	alarm(PATIENCE);
 	if (child == 0)
-		AT(0, registry_depth(&one.cpus[0], NULL));
+		AT(0, kupaldiz_depth(&one.cpus[0], NULL));
 	EXPECT(child == 0 || waitpid(child, &status, 0) == child);
 	if (child != 0 && WIFSIGNALED(status))
 		abort();
@@ -265,30 +360,41 @@ static void in_a_child(void)
 static void cancelled_anywhere(void)
 {
 	int type, state;
-	EXPECT(pthread_setcancelstate(PTHREAD_CANCEL_DISABLE, &state) == 0 && pthread_setcanceltype(PTHREAD_CANCEL_ASYNCHRONOUS, &type) == 0);
-	DONE(registry_depth(&one.cpus[0], NULL));
-	EXPECT(pthread_setcanceltype(PTHREAD_CANCEL_ASYNCHRONOUS, &type) == 0 && type == PTHREAD_CANCEL_ASYNCHRONOUS);
+	EXPECT(pthread_setcancelstate(PTHREAD_CANCEL_DISABLE, &state) == 0);
+	EXPECT(pthread_setcanceltype(PTHREAD_CANCEL_ASYNCHRONOUS, &type) == 0);
+	DONE(kupaldiz_depth(&one.cpus[0], NULL));
+	EXPECT(pthread_setcanceltype(PTHREAD_CANCEL_ASYNCHRONOUS, &type) == 0);
+	EXPECT(type == PTHREAD_CANCEL_ASYNCHRONOUS);
 	EXPECT(pthread_setcancelstate(PTHREAD_CANCEL_ENABLE, &state) == 0);
-	AT(0, registry_depth(&one.cpus[0], NULL));
+	AT(0, kupaldiz_depth(&one.cpus[0], NULL));
 }
 
 static void overlapping(void)
 {
 	found.name = wm;
-	(void)!AT(0, registry_look_up(&one.cpus[0], REGISTRY_DRIVER, &found.name, &found));
+	(void)!AT(0, kupaldiz_look_up(&one.cpus[0], KUPALDIZ_ENTRY, &found.name, &found));
 }
 
 /* ---- The interlock and sections. ---- */
 
 static void told_interlock(void)
 {
-	AT(0, registry_check_interlock(&one.keeper, &interlock));
-	(void)!AT(1, registry_attach(&one.keeper, &one.cpus[0], &wm0, 7, NULL));
+	AT(0, kupaldiz_check_interlock(&one.keeper, &mutex));
+	(void)!AT(1, kupaldiz_attach(&one.keeper, &one.cpus[0], &wm0, 7, NULL));
+}
+
+static void append_without(void)
+{
+	struct kupaldiz_entry row[1];
+	struct kupaldiz_deferred list = {.interlock = &interlock, .entries = row, .room = 1};
+	detach();
+	AT(0, kupaldiz_check_interlock(&one.keeper, &mutex));
+	(void)!AT(1, kupaldiz_deferred_add(&list, &found));
 }
 
 static void *wait_once(void *of)
 {
-	DONE(AT(0, registry_perform_wait(&lock, &one.keeper, &one.cpus[1], NULL, NULL)));
+	DONE(AT(0, kupaldiz_perform_wait(&interlock, &one.cpus[1], NULL, NULL)));
 	return of;
 }
 
@@ -302,61 +408,63 @@ static void *wait_and_stay(void *of)
 static void learned_interlock(void)
 {
 	beside(wait_and_stay);
-	AT(1, registry_settings_of(&one.keeper, NULL));
+	AT(1, kupaldiz_settings_of(&one.keeper, NULL));
 }
 
 static void waits_for_itself(void)
 {
-	pthread_mutex_lock(&interlock);
-	acquire_local(&local);
-	AT(0, registry_local_drop(&one.cpus[0], &local, &interlock, &one.keeper));
+	pthread_mutex_lock(&mutex);
+	get_local(&local);
+	AT(0, kupaldiz_release_local(&interlock, &one.cpus[0], &local));
 }
 
 static void open_at_close(void)
 {
-	DONE(AT(0, registry_enter(&one.cpus[1])));
-	DONE(registry_enter(&one.cpus[1]));
-	DONE(registry_exit(&one.cpus[1]));
-	AT(1, registry_close(one.cpus, 2, &one.keeper));
+	DONE(AT(0, kupaldiz_enter(&one.cpus[1])));
+	DONE(kupaldiz_enter(&one.cpus[1]));
+	DONE(kupaldiz_exit(&one.cpus[1]));
+	AT(1, kupaldiz_close(&one.keeper, one.cpus, 2));
 }
 
 static void waits_inside(void)
 {
-	DONE(AT(0, registry_enter_find(&one.cpus[1], REGISTRY_DRIVER, &wm, NULL)));
-	DONE(registry_detach(&one.keeper, &one.cpus[0], REGISTRY_DRIVER, &wm, &found));
-	(void)!AT(1, registry_destroy_wait(&lock, &one.keeper, &one.cpus[0], found.number, NULL, NULL));
+	DONE(AT(0, kupaldiz_enter_find(&one.cpus[1], KUPALDIZ_ENTRY, &wm, NULL)));
+	detach();
+	(void)!AT(1, kupaldiz_destroy_wait(&interlock, &one.cpus[0], found.number, NULL, NULL));
 }
 
 static void barrier_inside(void)
 {
-	struct registry_entry row[1];
-	struct registry_deferred deferred = {.keeper = &one.keeper, .entries = row, .room = 1};
-	DONE(AT(0, registry_enter(&one.cpus[1])));
-	DONE(registry_deferred_detach(&deferred, &one.cpus[0], REGISTRY_DRIVER, &wm, &found));
-	(void)!AT(1, registry_deferred_barrier(&lock, &deferred, NULL));
+	struct kupaldiz_entry row[1];
+	struct kupaldiz_deferred list = {.interlock = &interlock, .entries = row, .room = 1};
+	DONE(AT(0, kupaldiz_enter(&one.cpus[1])));
+	detach();
+	DONE(kupaldiz_deferred_add(&list, &found));
+	(void)!AT(1, kupaldiz_deferred_barrier(&list, NULL));
 }
 
 /* ---- What is right, or what a result says. ---- */
 
 static void take(void *of)
 {
-	EXPECT(of == NULL && pthread_mutex_lock(&interlock) == 0);
+	EXPECT(of == NULL && pthread_mutex_lock(&mutex) == 0);
 }
 
 static void give(void *of)
 {
-	EXPECT(of == NULL && pthread_mutex_unlock(&interlock) == 0);
+	EXPECT(of == NULL && pthread_mutex_unlock(&mutex) == 0);
 }
 
 /* It waits while another thread is inside a section, by a lock that is no mutex. */
 static void *copy_and_release(void *of)
 {
-	const struct registry_lock other = {take, give, NULL};
+	const struct kupaldiz_interlock other = {&one.keeper, take, give, NULL};
 	const struct timespec past = {0, 0};
-	EXPECT(registry_perform_wait(&other, &one.keeper, &one.cpus[0], &past, NULL) == REGISTRY_WAITING);
-	DONE(registry_copy(&one.cpus[0], found.number));
+	struct kupaldiz_passive copy = {0};
+	IS(WAITING, kupaldiz_perform_wait(&other, &one.cpus[0], &past, NULL));
+	DONE(kupaldiz_copy(&one.cpus[0], &passive, &copy));
 	stay();
-	DONE(registry_release(&one.cpus[0], found.number));
+	DONE(kupaldiz_release(&one.cpus[0], &copy));
 	atomic_store(&is_there, true);
 	return of;
 }
@@ -364,130 +472,165 @@ static void *copy_and_release(void *of)
 /* A release takes the thread's own reference, and a close takes all that are passive. */
 static void who_holds(void)
 {
-	DONE(AT(0, registry_get(&one.cpus[0], REGISTRY_DRIVER, &wm, &found)));
-	DONE(AT(2, registry_enter_find(&one.cpus[1], REGISTRY_DRIVER, &wm, NULL)));
+	struct kupaldiz_passive copy = {0}, other = {0};
+	struct kupaldiz_local shared = {0};
+	DONE(AT(0, kupaldiz_get(&one.cpus[0], KUPALDIZ_ENTRY, &wm, &passive)));
+	DONE(AT(2, kupaldiz_enter_find(&one.cpus[1], KUPALDIZ_ENTRY, &wm, &found)));
 	beside(copy_and_release);
-	DONE(AT(1, registry_copy(&one.cpus[0], found.number)));
+	DONE(AT(1, kupaldiz_copy(&one.cpus[0], &passive, &copy)));
 	atomic_store(&is_there, false);
 	while (!atomic_load(&is_there))
 		rest();
-	DONE(AT(3, registry_local_acquire(&one.cpus[1], &local)));
-	DONE(registry_attach(&one.keeper, &one.cpus[0], &wm0, 7, NULL));
-	DONE(registry_get(&one.cpus[0], REGISTRY_DRIVER, &wm0, NULL));
-	registry_holders(stderr, found.number | UINT64_C(1) << 41);
-	DONE(registry_exit(&one.cpus[1]));
-	DONE(registry_local_forget(&local));
-	DONE(registry_close_cpu(&one.cpus[0]));
-	registry_holders(stderr, found.number);
-	DONE(registry_close(one.cpus, 2, &one.keeper));
-	registry_holders(stderr, found.number);
+	DONE(AT(3, kupaldiz_acquire_local(&one.cpus[1], &found, &local)));
+	DONE(kupaldiz_attach(&one.keeper, &one.cpus[0], &wm0, 7, NULL));
+	DONE(kupaldiz_get(&one.cpus[0], KUPALDIZ_ENTRY, &wm0, &other));
+	kupaldiz_holders(stderr, found.number);
+	DONE(kupaldiz_copy_local(&local, &shared));
+	DONE(kupaldiz_try_release_local(&one.cpus[0], &local));
+	DONE(kupaldiz_exit(&one.cpus[1]));
+	DONE(kupaldiz_forget_local(&shared));
+	DONE(kupaldiz_close(NULL, &one.cpus[0], 1));
+	kupaldiz_holders(stderr, found.number);
+	DONE(kupaldiz_close(&one.keeper, one.cpus, 2));
+	kupaldiz_holders(stderr, found.number);
 }
 
-/* Another thread releases what this one acquired, ends its section, waits inside one of another registry, and needs no lock while it has the keeper. */
+/*
+ * Another thread releases what this one acquired, waits inside a section of another registry, and
+ * needs no lock while it has the keeper.
+ */
 static void *take_over(void *of)
 {
-	struct registry_local moved = local;
-	DONE(registry_local_drop(&one.cpus[1], &moved, &interlock, &one.keeper));
-	DONE(registry_release(&one.cpus[0], found.number));
-	DONE(registry_exit(&one.cpus[0]));
-	DONE(registry_enter(&two.cpus[0]));
+	struct kupaldiz_local moved = local;
+	DONE(kupaldiz_release_local(&interlock, &one.cpus[1], &moved));
+	DONE(kupaldiz_release(&one.cpus[0], &passive));
+	DONE(kupaldiz_enter(&two.cpus[0]));
 	wait_once(of);
-	DONE(registry_exit(&two.cpus[0]));
-	DONE(registry_attach(&one.keeper, &one.cpus[0], &wm0, 7, NULL));
+	DONE(kupaldiz_exit(&two.cpus[0]));
+	DONE(kupaldiz_attach(&one.keeper, &one.cpus[0], &wm0, 7, NULL));
 	return of;
 }
 
 /* A handle is moved there and back. At the end this thread has the keeper. */
 static void handed_over(void)
 {
-	struct registry_cpu moved = one.cpus[0];
-	pthread_t thread;
-	DONE(registry_get(&moved, REGISTRY_DRIVER, &wm, &found));
+	struct kupaldiz_cpu moved = one.cpus[0];
+	DONE(kupaldiz_get(&moved, KUPALDIZ_ENTRY, &wm, &passive));
+	const uint64_t number = passive.entry.number;
 	one.cpus[0] = moved;
-	acquire_local(&local);
-	DONE(registry_enter(&one.cpus[0]));
-	EXPECT(pthread_create(&thread, NULL, take_over, NULL) == 0 && pthread_join(thread, NULL) == 0);
-	registry_holders(stderr, found.number);
-	DONE(registry_detach(&one.keeper, &one.cpus[0], REGISTRY_DRIVER, &wm0, NULL));
-	EXPECT(registry_exit(&one.cpus[0]) == REGISTRY_OUTSIDE && registry_copy(&one.cpus[0], found.number) == REGISTRY_NOT_HELD);
-	DONE(registry_close(one.cpus, 2, &one.keeper));
-	DONE(registry_close(one.cpus, 2, &one.keeper));
-	EXPECT(registry_enter(&one.cpus[0]) == REGISTRY_EMPTY_HANDLE);
+	get_local(&local);
+	joined(started(take_over, NULL));
+	kupaldiz_holders(stderr, number);
+	detach();
+	IS(OUTSIDE, kupaldiz_exit(&one.cpus[0]));
+	IS(EMPTY_HANDLE, kupaldiz_release(&one.cpus[0], &passive));
+	DONE(kupaldiz_close(&one.keeper, one.cpus, 2));
+	DONE(kupaldiz_close(&one.keeper, one.cpus, 2));
+	IS(EMPTY_HANDLE, kupaldiz_enter(&one.cpus[0]));
+}
+
+/* A reference that was lost is made again, without a tag. It has its CPU's number. */
+static void made_again(void)
+{
+	struct kupaldiz_cpu *cpu = &one.cpus[1];
+	struct kupaldiz_passive lost = {0}, copy = {0};
+	DONE(kupaldiz_get(cpu, KUPALDIZ_ENTRY, &wm, &lost));
+	passive = (struct kupaldiz_passive){{.number = lost.entry.number}, 1};
+	DONE(kupaldiz_copy(cpu, &passive, &copy));
+	DONE(kupaldiz_release(cpu, &copy));
+	DONE(kupaldiz_release(cpu, &passive));
+	kupaldiz_holders(stderr, lost.entry.number);
 }
 
 static void *visit(void *of)
 {
-	DONE(registry_thread_register(of, NULL, NULL));
-	DONE(registry_thread_unregister(of));
+	DONE(kupaldiz_pool_take(of, NULL, NULL));
+	DONE(kupaldiz_pool_give(of));
 	return NULL;
 }
 
 /* A thread gives a CPU back where another one has a reference, and that one another CPU. */
-static void unregistered(void)
+static void given_back(void)
 {
-	struct registry_threads threads = {0}, others = {0};
-	pthread_t thread;
-	DONE(registry_get(&one.cpus[0], REGISTRY_DRIVER, &wm, &found));
-	DONE(registry_threads_open(&threads, &one.cpus[0], 1));
-	DONE(registry_threads_open(&others, &one.cpus[1], 1));
-	EXPECT(pthread_create(&thread, NULL, visit, &threads) == 0 && pthread_join(thread, NULL) == 0);
+	struct kupaldiz_pool pool = {0}, others = {0};
+	DONE(kupaldiz_get(&one.cpus[0], KUPALDIZ_ENTRY, &wm, &passive));
+	DONE(kupaldiz_pool_open(&pool, &one.cpus[0], 1));
+	DONE(kupaldiz_pool_open(&others, &one.cpus[1], 1));
+	joined(started(visit, &pool));
 	visit(&others);
 }
 
 /* All CPUs of the largest registry, and what calls return and write that no other row makes. */
 static void largest(void)
 {
-	const struct registry_settings settings = settings_of(REGISTRY_MOST_CPUS, 1);
-	static struct registry_keeper keeper;
-	static struct registry_cpu cpus[REGISTRY_MOST_CPUS];
-	struct registry_entry row[1];
-	struct registry_stage met;
+	const struct kupaldiz_settings settings = KUPALDIZ_SETTINGS(KUPALDIZ_MOST_CPUS, 2);
+	static struct kupaldiz_keeper keeper;
+	static struct kupaldiz_cpu cpus[KUPALDIZ_MOST_CPUS];
+	struct kupaldiz_entry row[1];
+	struct kupaldiz_met met;
 	size_t count;
 	bool held = false;
-	DONE(registry_open(&settings, &keeper, cpus, REGISTRY_MOST_CPUS));
-	DONE(registry_attach(&keeper, &cpus[0], &wm, 7, &found));
-	EXPECT(registry_room(&keeper) == REGISTRY_NO_SLOT && registry_look_up(&cpus[0], REGISTRY_DRIVER, &wm, row) == REGISTRY_DONE && row->value == 7);
-	DONE(registry_get(&cpus[0], REGISTRY_DRIVER, &wm, NULL));
-	EXPECT(registry_held(&cpus[0], found.number, &held) == REGISTRY_DONE && held);
-	DONE(registry_release(&cpus[0], found.number));
-	DONE(registry_enter(&cpus[0]));
-	EXPECT(registry_walk(&cpus[0], row, 1, &count) == REGISTRY_DONE && count == 1);
-	DONE(registry_exit(&cpus[0]));
-	DONE(registry_detach(&keeper, &cpus[0], REGISTRY_DRIVER, &wm, NULL));
-	EXPECT(registry_advance(&keeper, found.number, &met) == REGISTRY_DONE && met.stage == REGISTRY_FREED);
-	DONE(registry_audit(&keeper, cpus, REGISTRY_MOST_CPUS, NULL, 0, NULL));
-	DONE(registry_close(cpus, REGISTRY_MOST_CPUS, &keeper));
+	DONE(kupaldiz_open(&settings, &keeper, cpus, KUPALDIZ_MOST_CPUS));
+	DONE(kupaldiz_attach(&keeper, &cpus[0], &wm, 6, NULL));
+	DONE(kupaldiz_replace(&keeper, &cpus[0], &wm, 7, &found, NULL));
+	IS(NO_SLOT, kupaldiz_room(&keeper));
+	DONE(kupaldiz_destroy(&keeper, found.number, &met));
+	EXPECT(met.stage == KUPALDIZ_FREED && met.what == 0);
+	DONE(kupaldiz_look_up(&cpus[0], KUPALDIZ_ENTRY, &wm, row));
+	DONE(kupaldiz_get(&cpus[0], KUPALDIZ_ENTRY, &wm, &passive));
+	DONE(kupaldiz_held(&cpus[0], row->number, &held));
+	EXPECT(held && row->value == 7);
+	DONE(kupaldiz_release(&cpus[0], &passive));
+	DONE(kupaldiz_enter(&cpus[0]));
+	DONE(kupaldiz_walk(&cpus[0], row, 1, &count));
+	DONE(kupaldiz_exit(&cpus[0]));
+	EXPECT(count == 1);
+	DONE(kupaldiz_detach(&keeper, &cpus[0], KUPALDIZ_ENTRY, &wm, &found));
+	DONE(kupaldiz_destroy(&keeper, found.number, NULL));
+	DONE(kupaldiz_audit(&keeper, cpus, KUPALDIZ_MOST_CPUS, NULL, 0, NULL));
+	DONE(kupaldiz_close(&keeper, cpus, KUPALDIZ_MOST_CPUS));
 }
 
 static void without_interlock(void)
 {
-	registry_check_interlock(&one.keeper, NULL);
+	kupaldiz_check_interlock(&one.keeper, NULL);
 	learned_interlock();
 }
 
-/* A recursive interlock stays locked as often. In the child of a fork it is that of a registry of its own. */
+/* A recursive interlock stays locked as often. */
+static void lock_often(struct bench *own, const struct kupaldiz_interlock *often)
+{
+	kupaldiz_check_interlock(&own->keeper, &mutex);
+	EXPECT(pthread_mutex_lock(&mutex) == 0);
+	DONE(kupaldiz_perform_wait(often, &own->cpus[0], NULL, NULL));
+	DONE(kupaldiz_attach(&own->keeper, &own->cpus[0], &wm, 7, NULL));
+	EXPECT(pthread_mutex_unlock(&mutex) == 0 && pthread_mutex_unlock(&mutex) != 0);
+}
+
+/* In the child of a fork it is that of a registry of its own, too. */
 static void recursive(void)
 {
-	pthread_mutexattr_t often;
-	int status;
-	EXPECT(pthread_mutexattr_init(&often) == 0 && pthread_mutexattr_settype(&often, PTHREAD_MUTEX_RECURSIVE) == 0);
-	EXPECT(pthread_mutex_init(&interlock, &often) == 0);
-	pid_t child = fork();
-	alarm(20);
-	EXPECT(child == 0 || (waitpid(child, &status, 0) == child && status == 0));
 	struct bench own = {0};
-	DONE(registry_open(&SETTINGS, &own.keeper, own.cpus, 2));
-	registry_check_interlock(&own.keeper, &interlock);
-	EXPECT(pthread_mutex_lock(&interlock) == 0);
-	DONE(registry_perform_wait(&lock, &own.keeper, &own.cpus[0], NULL, NULL));
-	DONE(registry_attach(&own.keeper, &own.cpus[0], &wm, 7, NULL));
-	EXPECT(pthread_mutex_unlock(&interlock) == 0 && pthread_mutex_unlock(&interlock) != 0);
-	DONE(registry_close(own.cpus, 2, &own.keeper));
+	const struct kupaldiz_interlock often = kupaldiz_interlock_of_mutex(&own.keeper, &mutex);
+	pthread_mutexattr_t type;
+	int status;
+	EXPECT(pthread_mutexattr_init(&type) == 0);
+	EXPECT(pthread_mutexattr_settype(&type, PTHREAD_MUTEX_RECURSIVE) == 0);
+	EXPECT(pthread_mutex_init(&mutex, &type) == 0);
+	pid_t child = fork();
+	alarm(PATIENCE);
+	EXPECT(child == 0 || (waitpid(child, &status, 0) == child && status == 0));
+	DONE(kupaldiz_open(&SETTINGS, &own.keeper, own.cpus, 2));
+	lock_often(&own, &often);
+	DONE(kupaldiz_close(&own.keeper, own.cpus, 2));
 	if (child == 0)
 		_exit(0);
 }
 
-/* What a process says, with @0 for the place of the call that AT has noted as 0, and @t for the thread. If it begins with a place, it is aborted. */
+/*
+ * What a process says, with @0 for the place of the call that AT has noted as 0, and @t for the
+ * thread. If it begins with a place, it is aborted.
+ */
 struct row {
 	const char *name;
 	void (*body)(void);
@@ -495,41 +638,97 @@ struct row {
 };
 
 static const struct row ROWS[] = {
-	{"a reference released twice", released_twice, "@1: registry_release: wm's reference 1 was released already at @0\n"},
+	{"a reference released twice", released_twice,
+	    "@1: kupaldiz_release: wm's reference 1 was released already at @0\n"},
 	{"the same, and another CPU has one", released_twice_beside,
-	    "@1: registry_release: wm's reference 1 was released already at @0; wm's reference 1 is CPU 1's, acquired at @2\n"},
-	{"on another CPU", released_elsewhere, "@1: registry_release: wm's reference 1 is CPU 0's, acquired at @0, and this is CPU 1\n"},
+	    "@1: kupaldiz_release: wm's reference 1 was released already at @0; wm's reference "
+	    "1 is CPU 1's, acquired at @2\n"},
+	{"the same, and the CPU has another", taken_from_another,
+	    "@1: kupaldiz_release: wm's reference 1 was released already at @0\n"},
+	{"copied after its release", copied_afterwards,
+	    "@1: kupaldiz_copy: wm's reference 1 was released already at @0\n"},
+	{"on another CPU", released_elsewhere,
+	    "@1: kupaldiz_release: wm's reference 1 is CPU 0's, acquired at @0, and this is "
+	    "CPU 1\n"},
 	{"of another registry", released_to_another,
-	    "@1: registry_release: wm's reference 1, acquired at @0, is of the registry opened at @8, and this is CPU 0\n"},
-	{"never acquired", never_acquired, "@0: registry_release: CPU 0 never acquired a reference 1\n"},
-	{"left behind", left_behind, "@1: registry_thread_unregister: wm's reference 1, acquired at @0, stays on CPU 0\n"},
-	{"released twice, and the CPU has another", taken_from_another, "@1: registry_release: wm's reference 1 was released already at @0\n"},
-	{"read after its release", read_afterwards, "@1: registry_read: wm's reference 1 was released already at @0\n"},
-	{"a local reference released twice", local_twice, "@1: registry_local_release: wm's local reference was released already at @0\n"},
-	{"a local reference of an interface", local_given, "@1: registry_local_read: wm's local reference was released already at @0\n"},
-	{"a handle that was never set", never_set, "@0: registry_enter: the handle of the CPU is neither {0} nor what a call has set\n"},
-	{"no handle", no_pointer, "@0: registry_attach: the pointer to the handle of the keeper is NULL\n"},
-	{"a copy of a closed CPU", closed_copy, "@1: registry_inside: the CPU was closed at @0, and this is a copy of its handle\n"},
-	{"a closed registry", closed_registry, "@1: registry_perform_wait: the keeper was closed at @0, and this is a copy of its handle\n"},
-	{"two registries", two_registries, "@0: registry_attach: the CPU is of the registry opened at @9, and the keeper of the one opened at @8\n"},
-	{"two threads", two_threads, "@1: registry_depth: another thread uses the CPU: registry_find at @0\n"},
-	{"in a signal handler", in_a_signal, "@1: registry_depth: a signal handler makes this call, within registry_find at @0\n"},
-	{"in a child", in_a_child, "@0: registry_depth: the registry was opened at @8, before the fork of this process\n"},
-	{"asynchronous cancellation", cancelled_anywhere, "@0: registry_depth: asynchronous cancellation of this thread is enabled\n"},
-	{"overlapping pointers", overlapping, "@0: registry_look_up: the name lies within the entry that the call writes\n"},
+	    "@1: kupaldiz_release: wm's reference 1, acquired at @0, is of the registry opened "
+	    "at @8, and this is CPU 0\n"},
+	{"never acquired", never_acquired,
+	    "@0: kupaldiz_release: CPU 0 never acquired a reference 1\n"},
+	{"left behind", left_behind,
+	    "@1: kupaldiz_pool_give: wm's reference 1, acquired at @0, stays on CPU 0\n"},
+	{"a local reference released twice", local_twice,
+	    "@1: kupaldiz_try_release_local: wm's local reference was released already at @0\n"},
+	{"a local reference copied too late", local_copied_afterwards,
+	    "@1: kupaldiz_copy_local: wm's local reference was released already at @0\n"},
+	{"a handle that was never set", never_set,
+	    "@0: kupaldiz_enter: the handle of the CPU is neither {0} nor what a call has set\n"},
+	{"no handle", no_pointer,
+	    "@0: kupaldiz_attach: the pointer to the handle of the keeper is NULL\n"},
+	{"no place for a reference", no_place,
+	    "@0: kupaldiz_get: the pointer to the handle of the passive reference is NULL\n"},
+	{"a copy of a closed CPU", closed_copy,
+	    "@1: kupaldiz_depth: the CPU was closed at @0, and this is a copy of its handle\n"},
+	{"a closed registry", closed_registry,
+	    "@1: kupaldiz_perform_wait: the keeper was closed at @0, and this is a copy of its "
+	    "handle\n"},
+	{"two registries", two_registries,
+	    "@0: kupaldiz_attach: the CPU is of the registry opened at @9, and the keeper of "
+	    "the one opened at @8\n"},
+	{"two threads", two_threads,
+	    "@1: kupaldiz_depth: another thread uses the CPU: kupaldiz_find at @0\n"},
+	{"two threads, one in a section", two_threads_in_a_section,
+	    "@1: kupaldiz_find: the CPU is another thread's, which is inside the section that "
+	    "began at @0\n"},
+	{"two threads without a lock", two_threads_without_a_lock,
+	    "@0: kupaldiz_look_up: another thread uses the CPU: kupaldiz_look_up at @0\n"},
+	{"changes without a lock", changes_without_a_lock,
+	    "@0: kupaldiz_settings_of: another thread uses the keeper: kupaldiz_settings_of at "
+	    "@0\n"},
+	{"a thread ends in a section", ended_inside,
+	    "@0: kupaldiz_enter: thread @t has ended inside this section\n"},
+	{"a thread ends with a reference", ended_holding,
+	    "@0: kupaldiz_get: thread @t has ended with this reference to wm\n"},
+	{"a wait for one's own reference", waits_for_own,
+	    "@1: kupaldiz_destroy_wait: this thread's own reference holds the entry: wm's "
+	    "reference 1, acquired at @0\n"},
+	{"in a signal handler", in_a_signal,
+	    "@1: kupaldiz_depth: a signal handler makes this call, within kupaldiz_find at @0\n"},
+	{"in a child", in_a_child,
+	    "@0: kupaldiz_depth: the registry was opened at @8, before the fork of this "
+	    "process\n"},
+	{"asynchronous cancellation", cancelled_anywhere,
+	    "@0: kupaldiz_depth: asynchronous cancellation of this thread is enabled\n"},
+	{"overlapping pointers", overlapping,
+	    "@0: kupaldiz_look_up: the name lies within the entry that the call writes\n"},
 	{"without the interlock", told_interlock,
-	    "@1: registry_attach: this thread doesn't hold the keeper's interlock, known by registry_check_interlock at @0\n"},
+	    "@1: kupaldiz_attach: this thread doesn't hold the keeper's interlock, known by "
+	    "kupaldiz_check_interlock at @0\n"},
+	{"an append without it", append_without,
+	    "@1: kupaldiz_deferred_add: this thread doesn't hold the keeper's interlock, known "
+	    "by kupaldiz_check_interlock at @0\n"},
 	{"without the interlock of a wait", learned_interlock,
-	    "@1: registry_settings_of: this thread doesn't hold the keeper's interlock, known by registry_perform_wait at @0\n"},
-	{"with the interlock in a call that takes it", waits_for_itself, "@0: registry_local_drop: this thread holds the interlock, which the call takes\n"},
-	{"a section at the close", open_at_close, "@1: registry_close: CPU 1 is inside the section that began at @0\n"},
-	{"a wait in a section", waits_inside, "@1: registry_destroy_wait: this thread is inside the section that began on CPU 1 at @0\n"},
-	{"a barrier in a section", barrier_inside, "@1: registry_deferred_barrier: this thread is inside the section that began on CPU 1 at @0\n"},
+	    "@1: kupaldiz_settings_of: this thread doesn't hold the keeper's interlock, known "
+	    "by kupaldiz_perform_wait at @0\n"},
+	{"with the interlock in a call that takes it", waits_for_itself,
+	    "@0: kupaldiz_release_local: this thread holds the interlock, which the call "
+	    "takes\n"},
+	{"a section at the close", open_at_close,
+	    "@1: kupaldiz_close: CPU 1 is inside the section that began at @0\n"},
+	{"a wait in a section", waits_inside,
+	    "@1: kupaldiz_destroy_wait: this thread is inside the section that began on CPU 1 "
+	    "at @0\n"},
+	{"a barrier in a section", barrier_inside,
+	    "@1: kupaldiz_deferred_barrier: this thread is inside the section that began on "
+	    "CPU 1 at @0\n"},
 	{"who holds", who_holds,
-	    "local, CPU 1, @3, thread @t\npassive, CPU 0, @1, thread @t\npassive, CPU 0, @0, thread @t\nsection, CPU 1, @2, thread @t\n"
+	    "local, CPU 1, @3, thread @t\n"
+	    "passive, CPU 0, @1, thread @t\npassive, CPU 0, @0, thread @t\n"
+	    "section, CPU 1, @2, thread @t\n"
 	    "passive, CPU 0, @1, thread @t\npassive, CPU 0, @0, thread @t\n"},
 	{"handed over", handed_over, ""},
-	{"unregistered", unregistered, ""},
+	{"made again", made_again, ""},
+	{"given back", given_back, ""},
 	{"the largest registry", largest, ""},
 	{"told that no interlock is needed", without_interlock, ""},
 	{"a recursive interlock, and a child's registry", recursive, ""},
@@ -543,10 +742,21 @@ static void fill(char *filled, size_t room, const char *text)
 		if (*text != '@')
 			length += (size_t)snprintf(filled + length, room - length, "%c", *text);
 		else if (*++text == 't')
-			length += (size_t)snprintf(filled + length, room - length, "%d", lines[THREAD]);
+			length += (size_t)snprintf(filled + length, room - length, "%d",
+			    lines[THREAD]);
 		else
-			length += (size_t)snprintf(filled + length, room - length, "%s:%d", __FILE__, lines[*text - '0']);
+			length += (size_t)snprintf(filled + length, room - length, "%s:%d",
+			    __FILE__, lines[*text - '0']);
 	filled[length] = 0;
+}
+
+/* An emulator says more of an abort. */
+static bool is_as(const struct row *row, const char *said, const char *wanted, int status)
+{
+	if (row->says[0] != '@')
+		return strcmp(said, wanted) == 0 && status == 0;
+	return strncmp(said, wanted, strlen(wanted)) == 0 && WIFSIGNALED(status) &&
+	    WTERMSIG(status) == SIGABRT;
 }
 
 static bool holds(const struct row *row)
@@ -554,24 +764,24 @@ static bool holds(const struct row *row)
 	char said[1000], wanted[1000];
 	int status = run_in_child(open_both, row->body, said, sizeof said);
 	fill(wanted, sizeof wanted, row->says);
-	/* An emulator says more of an abort. */
-	bool right = row->says[0] == '@' ? strncmp(said, wanted, strlen(wanted)) == 0 && WIFSIGNALED(status) && WTERMSIG(status) == SIGABRT
-	                                 : strcmp(said, wanted) == 0 && status == 0;
-	if (!right)
-		printf("FAILED  %s, with status %x. It said:\n%sWanted:\n%s", row->name, (unsigned)status, said, wanted);
-	return right;
+	if (is_as(row, said, wanted, status))
+		return true;
+	printf("FAILED  %s, with status %x. It said:\n%sWanted:\n%s", row->name,
+	    (unsigned)status, said, wanted);
+	return false;
 }
 
 int main(void)
 {
 	unsigned failed = 0;
-	lock = registry_lock_of_mutex(&interlock);
+	interlock = kupaldiz_interlock_of_mutex(&one.keeper, &mutex);
 	wm = name_of("wm");
 	wm0 = name_of("wm0");
-	lines = mmap(NULL, 10 * sizeof *lines, PROT_READ | PROT_WRITE, MAP_SHARED | MAP_ANONYMOUS, -1, 0);
+	lines = mmap(NULL, 10 * sizeof *lines, PROT_READ | PROT_WRITE, MAP_SHARED | MAP_ANONYMOUS,
+	    -1, 0);
 	EXPECT(lines != MAP_FAILED);
-	for (size_t i = 0; i < sizeof ROWS / sizeof *ROWS; i++)
+	for (size_t i = 0; i < COUNT_OF(ROWS); i++)
 		failed += !holds(&ROWS[i]);
-	printf("%zu rows, %u failed\n", sizeof ROWS / sizeof *ROWS, failed);
+	printf("%zu rows, %u failed\n", COUNT_OF(ROWS), failed);
 	return failed != 0;
 }

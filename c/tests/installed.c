@@ -1,6 +1,9 @@
-/* installed - a program over the installed library alone, in C and in C++: a driver is attached, found, detached and waited for. */
-#include <kupaldiz/registry.h>
-#include <kupaldiz/registry_waiting.h>
+/*
+ * installed - a program over the installed library alone, in C and in C++: an entry is attached,
+ * found, replaced, detached and waited for
+ */
+#include <kupaldiz.h>
+#include <kupaldiz_waiting.h>
 
 #include <stdio.h>
 #include <stdlib.h>
@@ -21,35 +24,52 @@ static void check(const char *call, bool is_right)
 }
 
 #define EXPECT(condition)	check(#condition, condition)
-#define DONE(call)		EXPECT((call) == REGISTRY_DONE)
+#define DONE(call)		EXPECT((call) == KUPALDIZ_DONE)
+
+/* An entry is found and held in each way. */
+static void refer(const struct kupaldiz_interlock *interlock, struct kupaldiz_cpu *cpu,
+    const struct kupaldiz_name *name)
+{
+	static struct kupaldiz_passive passive, copy;
+	static struct kupaldiz_local local;
+	struct kupaldiz_entry entry;
+	DONE(kupaldiz_enter_find(cpu, KUPALDIZ_ENTRY, name, &entry));
+	DONE(kupaldiz_acquire(cpu, &entry, &passive));
+	DONE(kupaldiz_acquire_local(cpu, &entry, &local));
+	DONE(kupaldiz_exit(cpu));
+	DONE(kupaldiz_copy(cpu, &passive, &copy));
+	EXPECT(copy.entry.value == 7 && local.entry.number == entry.number);
+	DONE(kupaldiz_release(cpu, &passive));
+	DONE(kupaldiz_release(cpu, &copy));
+	DONE(kupaldiz_release_local(interlock, cpu, &local));
+}
 
 int main(void)
 {
-	const struct registry_settings settings = {1, 4, 100, 100, 10, 10};
-	struct registry_keeper keeper = {0};
-	struct registry_cpu cpu = {0};
-	struct registry_name wm;
-	struct registry_entry entry;
-	struct registry_limits limits;
-	char again[REGISTRY_NAME_ROOM];
+	const struct kupaldiz_settings settings = {1, 4, 100, 100, 10, 10};
+	struct kupaldiz_keeper keeper = {0};
+	struct kupaldiz_cpu cpu = {0};
+	struct kupaldiz_name wm;
+	struct kupaldiz_entry gone;
+	struct kupaldiz_limits limits;
+	char again[KUPALDIZ_NAME_ROOM];
 	pthread_mutex_t mutex = PTHREAD_MUTEX_INITIALIZER;
-	struct registry_lock lock = registry_lock_of_mutex(&mutex);
-	DONE(registry_name_parse("wm", 2, &wm, NULL));
-	DONE(registry_name_format(&wm, again, sizeof again));
-	DONE(registry_open(&settings, &keeper, &cpu, 1));
-	DONE(registry_attach(&keeper, &cpu, &wm, 7, NULL));
-	DONE(registry_enter(&cpu));
-	DONE(registry_find(&cpu, REGISTRY_DRIVER, &wm, &entry));
-	DONE(registry_acquire_entry(&cpu, &entry));
-	DONE(registry_exit(&cpu));
-	DONE(registry_release(&cpu, entry.number));
-	DONE(registry_detach(&keeper, &cpu, REGISTRY_DRIVER, &wm, &entry));
-	DONE(registry_perform_wait(&lock, &keeper, &cpu, NULL, NULL));
-	DONE(registry_destroy_wait(&lock, &keeper, &cpu, entry.number, NULL, NULL));
-	DONE(registry_close(&cpu, 1, &keeper));
-	registry_limits(&limits);
-	EXPECT(strcmp(again, "wm") == 0 && entry.value == 7 && strcmp(registry_strerror(REGISTRY_DONE), "done") == 0);
-	EXPECT(limits.cpus == REGISTRY_MOST_CPUS && limits.slots == REGISTRY_MOST_SLOTS);
-	printf("%s, version %s\n", LANGUAGE, registry_version());
+	struct kupaldiz_interlock interlock = kupaldiz_interlock_of_mutex(&keeper, &mutex);
+	DONE(kupaldiz_name_of_bytes("wm", 2, &wm));
+	DONE(kupaldiz_name_format(&wm, again, sizeof again));
+	DONE(kupaldiz_open(&settings, &keeper, &cpu, 1));
+	DONE(kupaldiz_attach(&keeper, &cpu, &wm, 7, NULL));
+	refer(&interlock, &cpu, &wm);
+	DONE(kupaldiz_replace(&keeper, &cpu, &wm, kupaldiz_value(again), &gone, NULL));
+	DONE(kupaldiz_destroy_wait(&interlock, &cpu, gone.number, NULL, NULL));
+	DONE(kupaldiz_detach(&keeper, &cpu, KUPALDIZ_ENTRY, &wm, &gone));
+	EXPECT(gone.pointer == again);
+	DONE(kupaldiz_perform_wait(&interlock, &cpu, NULL, NULL));
+	DONE(kupaldiz_destroy_wait(&interlock, &cpu, gone.number, NULL, NULL));
+	DONE(kupaldiz_close(&keeper, &cpu, 1));
+	kupaldiz_limits(&limits);
+	EXPECT(strcmp(again, "wm") == 0 && strcmp(kupaldiz_strerror(KUPALDIZ_DONE), "done") == 0);
+	EXPECT(limits.cpus == KUPALDIZ_MOST_CPUS && limits.slots == KUPALDIZ_MOST_SLOTS);
+	printf("%s, version %s\n", LANGUAGE, kupaldiz_version());
 	return 0;
 }

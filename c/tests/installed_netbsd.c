@@ -1,6 +1,7 @@
 /*
- * installed_netbsd - a program over the installed headers of the manual pages' own names, in C and in C++: one thing is looked at in a section,
- * referred to and waited for by each of the three pages.
+ * installed_netbsd - a program over the installed headers of the manual pages' own names, in C and
+ * in C++: one thing is looked at in a section, referred to and waited for by each of the three
+ * pages.
  */
 #include <sys/condvar.h>
 #include <sys/localcount.h>
@@ -17,7 +18,9 @@
 #define LANGUAGE "C"
 #endif
 
-/* In a section a passive reference is taken along, which psref_held tells of until it is released. */
+/*
+ * In a section a passive reference is taken along, which psref_held tells of until it is released.
+ */
 static bool refers(struct psref_target *target, struct psref_class *psref_class)
 {
 	struct psref psref;

@@ -1,35 +1,76 @@
 /*
- * interrupted - each wait of waiting.h under a storm of signals, and in a thread that is cancelled. A wait for a CPU also with a deadline that never comes
+ * interrupted - each wait of kupaldiz_waiting.h under a storm of signals, and in a thread that is
+ * cancelled. A wait for a CPU also with a deadline that never comes
+ *
+ * A wait sleeps by calls that the linker leads here (--wrap), so the test sees that it sleeps.
  */
-#include <pthread.h>
+#include <errno.h>
 #include <sched.h>
 #include <signal.h>
 #include <stdatomic.h>
 
 #include "client.h"
-#include "waiting.h"
+#include "kupaldiz_waiting.h"
+#include "wrapped_heap.h"
 
 /* The ways to wait, and what each returns at its deadline. */
-enum way { DESTROY, PERFORM, BARRIER, REGISTER, WAYS };
-static const registry_answer late[WAYS] = {REGISTRY_STILL_HELD, REGISTRY_WAITING, REGISTRY_STILL_HELD, REGISTRY_NO_CPU};
+enum way { DESTROY, PERFORM, BARRIER, TAKE, WAYS };
+static const enum kupaldiz_result late[WAYS] = {KUPALDIZ_STILL_HELD, KUPALDIZ_WAITING,
+    KUPALDIZ_STILL_HELD, KUPALDIZ_NO_CPU};
 
 /* A thread that waits. */
 struct waiter {
 	enum way way;
 	const struct timespec *deadline;
-	registry_answer answer;
-	atomic_bool ended;
+	enum kupaldiz_result result;
+	atomic_bool sleeps, ended;
+	bool is_late;	/* its deadline was seen to have passed */
 	pthread_t thread;
 };
 
-static struct registry_keeper keeper;
-static struct registry_cpu cpus[3];
+/* That of this thread, if it waits. */
+static _Thread_local struct waiter *own;
+
+WRAPPED(nanosleep);
+WRAPPED(pthread_cond_wait);
+WRAPPED(pthread_cond_timedwait);
+
+static void note_sleep(void)
+{
+	if (own != NULL)
+		atomic_store(&own->sleeps, true);
+}
+
+int __wrap_nanosleep(const struct timespec *length, struct timespec *left)
+{
+	note_sleep();
+	return __real_nanosleep(length, left);
+}
+
+int __wrap_pthread_cond_wait(pthread_cond_t *of, pthread_mutex_t *with)
+{
+	note_sleep();
+	return __real_pthread_cond_wait(of, with);
+}
+
+int __wrap_pthread_cond_timedwait(pthread_cond_t *of, pthread_mutex_t *with,
+    const struct timespec *until)
+{
+	note_sleep();
+	int error = __real_pthread_cond_timedwait(of, with, until);
+	if (own != NULL && error == ETIMEDOUT)
+		own->is_late = true;
+	return error;
+}
+
+static struct kupaldiz_keeper keeper;
+static struct kupaldiz_cpu cpus[3];
 static pthread_mutex_t mutex = PTHREAD_MUTEX_INITIALIZER;
-static struct registry_lock lock;
-static struct registry_entry row[4];
-static struct registry_deferred list = {.keeper = &keeper, .entries = row, .room = 4};
-static struct registry_threads pool;
-static struct registry_name wm;
+static struct kupaldiz_interlock interlock;
+static struct kupaldiz_entry row[4];
+static struct kupaldiz_deferred list = {.interlock = &interlock, .entries = row, .room = 4};
+static struct kupaldiz_pool pool;
+static struct kupaldiz_name wm;
 static uint64_t number;
 static atomic_uint signals;
 
@@ -39,89 +80,89 @@ static void count_signal(int signal)
 	atomic_fetch_add(&signals, 1);
 }
 
-/* Keeps the wait waiting: this thread takes the pool's one CPU, or CPU 0 is in a section, which may hold what is retired then. */
+/*
+ * Keeps the wait waiting: this thread takes the pool's one CPU, or CPU 0 is in a section, which may
+ * hold what is retired then.
+ */
 static void hold(enum way way)
 {
-	struct registry_entry made;
-	if (way == REGISTER) {
-		DONE(registry_thread_register(&pool, NULL, NULL));
+	struct kupaldiz_entry gone;
+	if (way == TAKE) {
+		DONE(kupaldiz_pool_take(&pool, NULL, NULL));
 		return;
 	}
-	DONE(registry_enter(&cpus[0]));
+	DONE(kupaldiz_enter(&cpus[0]));
 	if (way == PERFORM)
 		return;
-	DONE(registry_attach(&keeper, &cpus[1], &wm, 7, &made));
-	number = made.number;
-	DONE(way == DESTROY ? registry_detach(&keeper, &cpus[1], REGISTRY_DRIVER, &wm, NULL)
-	                    : registry_deferred_detach(&list, &cpus[1], REGISTRY_DRIVER, &wm, NULL));
+	DONE(kupaldiz_attach(&keeper, &cpus[1], &wm, 7, NULL));
+	DONE(kupaldiz_detach(&keeper, &cpus[1], KUPALDIZ_DRIVER, &wm, &gone));
+	number = gone.number;
+	if (way == BARRIER)
+		DONE(kupaldiz_deferred_add(&list, &gone));
 }
 
 static void let_go(enum way way)
 {
-	DONE(way == REGISTER ? registry_thread_unregister(&pool) : registry_exit(&cpus[0]));
+	DONE(way == TAKE ? kupaldiz_pool_give(&pool) : kupaldiz_exit(&cpus[0]));
 }
 
-static registry_answer wait_by(enum way way, const struct timespec *deadline)
+static enum kupaldiz_result wait_by(enum way way, const struct timespec *deadline)
 {
 	if (way == DESTROY)
-		return registry_destroy_wait(&lock, &keeper, &cpus[1], number, deadline, NULL);
+		return kupaldiz_destroy_wait(&interlock, &cpus[1], number, deadline, NULL);
 	if (way == PERFORM)
-		return registry_perform_wait(&lock, &keeper, &cpus[1], deadline, NULL);
+		return kupaldiz_perform_wait(&interlock, &cpus[1], deadline, NULL);
 	if (way == BARRIER)
-		return registry_deferred_barrier(&lock, &list, deadline);
-	registry_answer answer = registry_thread_register(&pool, deadline, NULL);
-	if (answer == REGISTRY_DONE)
-		let_go(REGISTER);
-	return answer;
+		return kupaldiz_deferred_barrier(&list, deadline);
+	enum kupaldiz_result result = kupaldiz_pool_take(&pool, deadline, NULL);
+	if (result == KUPALDIZ_DONE)
+		let_go(TAKE);
+	return result;
 }
 
 static void *wait_in_thread(void *of)
 {
-	struct waiter *waiter = of;
-	waiter->answer = wait_by(waiter->way, waiter->deadline);
+	struct waiter *waiter = own = of;
+	waiter->result = wait_by(waiter->way, waiter->deadline);
 	atomic_store(&waiter->ended, true);
 	return NULL;
 }
 
 static void start(struct waiter *waiter)
 {
-	EXPECT(pthread_create(&waiter->thread, NULL, wait_in_thread, waiter) == 0);
+	waiter->thread = started(wait_in_thread, waiter);
 }
 
 /* Starts the wait, and lets it come to its sleeps. */
-static void start_and_rest(struct waiter *waiter)
+static void start_and_sleep(struct waiter *waiter)
 {
 	start(waiter);
-	for (unsigned i = 0; i < 300; i++)
+	while (!atomic_load(&waiter->sleeps) && !atomic_load(&waiter->ended))
 		rest();
+	EXPECT(!atomic_load(&waiter->ended));
 }
 
 static void end(struct waiter *waiter)
 {
-	void *result;
-	EXPECT(pthread_join(waiter->thread, &result) == 0 && result == NULL && atomic_load(&waiter->ended));
+	EXPECT(joined(waiter->thread) == NULL && atomic_load(&waiter->ended));
 }
 
-/* A deadline that never comes ends no wait for a CPU, however it is written. turns.c has the other waits. */
+/*
+ * A deadline that never comes ends no wait for a CPU, however it is written. turns.c has the other
+ * waits.
+ */
 static void test_far(void)
 {
-	static const struct timespec deadlines[] = {{INT64_MAX, 999999999}, {INT64_MAX, 0}, {INT32_MAX, 0}};
-	for (unsigned i = 0; i < sizeof deadlines / sizeof *deadlines; i++) {
-		struct waiter waiter = {.way = REGISTER, .deadline = &deadlines[i]};
-		hold(REGISTER);
-		start_and_rest(&waiter);
-		EXPECT(!atomic_load(&waiter.ended));
-		let_go(REGISTER);
+	static const struct timespec deadlines[] = {{INT64_MAX, 999999999}, {INT64_MAX, 0},
+	    {INT32_MAX, 0}};
+	for (unsigned i = 0; i < COUNT_OF(deadlines); i++) {
+		struct waiter waiter = {.way = TAKE, .deadline = &deadlines[i]};
+		hold(TAKE);
+		start_and_sleep(&waiter);
+		let_go(TAKE);
 		end(&waiter);
-		EXPECT(waiter.answer == REGISTRY_DONE);
+		EXPECT(waiter.result == KUPALDIZ_DONE && !waiter.is_late);
 	}
-}
-
-static int64_t now(void)
-{
-	struct timespec time;
-	EXPECT(clock_gettime(CLOCK_MONOTONIC, &time) == 0);
-	return (int64_t)time.tv_sec * 1000000000 + time.tv_nsec;
 }
 
 /* Sends signals until the wait has ended, or for so many of them. */
@@ -137,15 +178,13 @@ static void storm(struct waiter *waiter, unsigned most)
 /* A wait of a moment under a storm ends at its deadline. */
 static void wait_in_storm(enum way way)
 {
-	enum { MOMENT = 50000000, LATE = 20 };
-	const int64_t until = now() + MOMENT;
-	const struct timespec deadline = {until / 1000000000, until % 1000000000};
+	const struct timespec deadline = in_milliseconds(50);
 	struct waiter waiter = {.way = way, .deadline = &deadline};
 	start(&waiter);
 	storm(&waiter, UINT32_MAX);
-	EXPECT(now() >= until && now() < until + (int64_t)LATE * 1000000000);
+	EXPECT(is_past(&deadline));
 	end(&waiter);
-	EXPECT(waiter.answer == late[way]);
+	EXPECT(waiter.result == late[way]);
 }
 
 /* Signals end no wait early, and delay none past its deadline. */
@@ -156,65 +195,68 @@ static void test_signals(enum way way)
 	atomic_store(&signals, 0);
 	while (atomic_load(&signals) == 0)
 		wait_in_storm(way);
-	start(&whole);
+	start_and_sleep(&whole);
 	storm(&whole, 2000);
 	EXPECT(!atomic_load(&whole.ended));
 	let_go(way);
 	storm(&whole, UINT32_MAX);
 	end(&whole);
-	EXPECT(whole.answer == REGISTRY_DONE);
+	EXPECT(whole.result == KUPALDIZ_DONE);
 }
 
-/* A wait that is cancelled leaves the interlock free, and everything as a deadline leaves it: the next wait goes on. */
+/*
+ * A wait that is cancelled leaves the interlock free, and everything as a deadline leaves it: the
+ * next wait goes on.
+ */
 static void test_cancelled(enum way way)
 {
 	struct waiter waiter = {.way = way};
-	void *result;
 	hold(way);
-	start_and_rest(&waiter);
-	EXPECT(pthread_cancel(waiter.thread) == 0 && pthread_join(waiter.thread, &result) == 0);
-	EXPECT(result == PTHREAD_CANCELED && !atomic_load(&waiter.ended));
+	start_and_sleep(&waiter);
+	EXPECT(pthread_cancel(waiter.thread) == 0);
+	EXPECT(joined(waiter.thread) == PTHREAD_CANCELED && !atomic_load(&waiter.ended));
 	EXPECT(pthread_mutex_trylock(&mutex) == 0 && pthread_mutex_unlock(&mutex) == 0);
 	let_go(way);
 	DONE(wait_by(way, NULL));
 }
 
-/* A thread that is to be cancelled stops a reclaimer: it waits for its end, is cancelled later, and leaves nothing behind. */
+/*
+ * A thread that is to be cancelled stops a reclaimer: it waits for its end, is cancelled later, and
+ * leaves nothing behind.
+ */
 static void *stop(void *of)
 {
 	(void)of;
 	EXPECT(pthread_cancel(pthread_self()) == 0);
-	DONE(registry_reclaimer_stop(&lock, &list));
+	DONE(kupaldiz_reclaimer_stop(&list));
 	pthread_testcancel();
 	return NULL;
 }
 
 static void test_cancelled_stop(void)
 {
-	pthread_t thread;
-	void *result;
-	DONE(registry_reclaimer_start(&lock, &list));
-	EXPECT(pthread_create(&thread, NULL, stop, NULL) == 0 && pthread_join(thread, &result) == 0 && result == PTHREAD_CANCELED);
-	EXPECT(registry_reclaimer_stop(&lock, &list) == REGISTRY_EMPTY_HANDLE);
+	DONE(kupaldiz_reclaimer_start(&list));
+	EXPECT(joined(started(stop, NULL)) == PTHREAD_CANCELED);
+	EXPECT(kupaldiz_reclaimer_stop(&list) == KUPALDIZ_EMPTY_HANDLE);
 }
 
 int main(void)
 {
-	const struct registry_settings settings = {3, 4, 1000, 10000, 100, 100};
+	const struct kupaldiz_settings settings = {3, 4, 1000, 10000, 100, 100};
 	struct sigaction action = {.sa_handler = count_signal};
 	EXPECT(sigaction(SIGUSR1, &action, NULL) == 0);
-	lock = registry_lock_of_mutex(&mutex);
+	interlock = kupaldiz_interlock_of_mutex(&keeper, &mutex);
 	wm = name_of("wm");
-	DONE(registry_open(&settings, &keeper, cpus, 3));
-	DONE(registry_threads_open(&pool, &cpus[2], 1));
+	DONE(kupaldiz_open(&settings, &keeper, cpus, 3));
+	DONE(kupaldiz_pool_open(&pool, &cpus[2], 1));
 	for (enum way way = 0; way < WAYS; way++) {
 		test_signals(way);
 		test_cancelled(way);
 	}
 	test_far();
 	test_cancelled_stop();
-	DONE(registry_threads_close(&pool));
-	DONE(registry_close(cpus, 3, &keeper));
+	DONE(kupaldiz_pool_close(&pool));
+	DONE(kupaldiz_close(&keeper, cpus, 3));
 	puts("interrupted end");
 	return 0;
 }

@@ -1,19 +1,24 @@
 /*
  * ordered - the instructions that read and write a registry's table in a test's calls: for aarch64
  *
- * It is linked to a test of one thread, with --wrap for registry_open, malloc and free. Once a registry is opened nothing can be read from its table or
- * written to it: each access ends in a signal. The handler looks at the instruction, does what it says by a second mapping of the same memory, and goes
- * on after it. Any instruction but the four of sequentially consistent steps on a word ends the program with status 1: a plain load or store, one
- * that is weaker, and one that works on a part of a word or on two.
+ * It is linked to a test of one thread, with --wrap for kupaldiz_open, malloc and free. Once a
+ * registry is opened nothing can be read from its table or written to it: each access ends in a
+ * signal. The handler looks at the instruction, does what it says by a second mapping of the same
+ * memory, and goes on after it. Any instruction but the four of sequentially consistent steps on a
+ * word ends the program with status 1: a plain load or store, one that is weaker, and one that
+ * works on a part of a word or on two.
  *
- * A load that begins a pair is done by the handler, so the store that ends the pair would find no pair begun, and fail without an access. So that store is
- * overwritten by an ordered store, whose access is seen and done as what stood there.
+ * A load that begins a pair is done by the handler, so the store that ends the pair would find no
+ * pair begun, and fail without an access. So that store is overwritten by an ordered store, whose
+ * access is seen and done as what stood there.
  *
- * From each of these instructions, as it is met for the first time, the unwind tables have to lead on to where the program began.
+ * From each of these instructions, as it is met for the first time, the unwind tables have to lead
+ * on to where the program began.
  *
- * What is done before the opening returns isn't looked at, nor what frees the table: nobody else has it then. At its end the program says how often
- * each of the four came to a table. Where ORDERED_SITES names a file, the places of the instructions that came are written there, a line each.
- * With ORDERED_PLANT the program itself makes a plain load, which has to be seen.
+ * What is done before the opening returns isn't looked at, nor what frees the table: nobody else
+ * has it then. At its end the program says how often each of the four came to a table. Where
+ * ORDERED_SITES names a file, the places of the instructions that came are written there, a line
+ * each. With ORDERED_PLANT the program itself makes a plain load, which has to be seen.
  */
 #include <execinfo.h>
 #include <signal.h>
@@ -57,17 +62,23 @@ static size_t table_bytes;
 
 static unsigned long counts[KINDS];
 
-/* Where the program began, as a stack tells it that needs no table of the library's; and how many places didn't lead there, of how many. */
+/*
+ * Where the program began, as a stack tells it that needs no table of the library's; and how many
+ * places didn't lead there, of how many.
+ */
 static void *home;
 static unsigned long lost, places_met;
 
-/* By an instruction's distance from the beginning of the program's code, in instructions: whether it was met, and what was overwritten there, or 0. */
+/*
+ * By an instruction's distance from the beginning of the program's code, in instructions: whether
+ * it was met, and what was overwritten there, or 0.
+ */
 static unsigned char met[MOST_CODE];
 static uint32_t overwritten[MOST_CODE];
 
 extern const char __executable_start[];
 
-WRAPPED(registry_open);
+WRAPPED(kupaldiz_open);
 
 static size_t table_pages(const struct table *table)
 {
@@ -78,9 +89,11 @@ static size_t table_pages(const struct table *table)
 /* The table that has this address, or NULL. */
 static struct table *table_at(const void *address)
 {
-	for (unsigned i = 0; i < MOST_TABLES; i++)
-		if (tables[i].seen != NULL && (uintptr_t)address - (uintptr_t)tables[i].seen < tables[i].bytes)
+	for (unsigned i = 0; i < MOST_TABLES; i++) {
+		const uintptr_t distance = (uintptr_t)address - (uintptr_t)tables[i].seen;
+		if (tables[i].seen != NULL && distance < tables[i].bytes)
 			return &tables[i];
+	}
 	return NULL;
 }
 
@@ -99,8 +112,9 @@ static char *map_table(struct table *table)
 	FILE *file = tmpfile();
 	table->bytes = table_bytes;
 	EXPECT(file != NULL && ftruncate(fileno(file), (off_t)table_pages(table)) == 0);
-	table->seen = mmap(NULL, table_pages(table), PROT_READ | PROT_WRITE, MAP_SHARED, fileno(file), 0);
-	table->behind = mmap(NULL, table_pages(table), PROT_READ | PROT_WRITE, MAP_SHARED, fileno(file), 0);
+	const size_t pages = table_pages(table);
+	table->seen = mmap(NULL, pages, PROT_READ | PROT_WRITE, MAP_SHARED, fileno(file), 0);
+	table->behind = mmap(NULL, pages, PROT_READ | PROT_WRITE, MAP_SHARED, fileno(file), 0);
 	EXPECT(table->seen != MAP_FAILED && table->behind != MAP_FAILED);
 	table->closed = false;
 	fclose(file);
@@ -124,9 +138,11 @@ void __wrap_free(void *block)
 	table->seen = NULL;
 }
 
-static void refuse(const struct table *table, const void *address, uint64_t place, uint32_t instruction)
+static void refuse(const struct table *table, const void *address, uint64_t place,
+    uint32_t instruction)
 {
-	fprintf(stderr, "ordered: the instruction %#x at %#lx comes to byte %ld of a table\n", (unsigned)instruction, (unsigned long)place,
+	fprintf(stderr, "ordered: the instruction %#x at %#lx comes to byte %ld of a table\n",
+	    (unsigned)instruction, (unsigned long)place,
 	    (long)((const char *)address - table->seen));
 	_exit(1);
 }
@@ -145,7 +161,10 @@ static void set_register(mcontext_t *machine, unsigned number, uint64_t value)
 		machine->regs[number] = value;
 }
 
-/* Does what the instruction says. One thread runs: what it has loaded exclusively nobody has written since. */
+/*
+ * Does what the instruction says. One thread runs: what it has loaded exclusively nobody has
+ * written since.
+ */
 static void step(mcontext_t *machine, enum kind kind, uint32_t instruction, uint64_t *word)
 {
 	unsigned moved = instruction & 31;
@@ -159,19 +178,22 @@ static void step(mcontext_t *machine, enum kind kind, uint32_t instruction, uint
 }
 
 /* Overwrites the store that ends the pair which this load begins. */
-static void overwrite_end(uint32_t *load, uint64_t place, const struct table *table, const void *address)
+static void overwrite_end(uint32_t *load, uint64_t place, const struct table *table,
+    const void *address)
 {
 	size_t page = (size_t)sysconf(_SC_PAGESIZE);
 	uint32_t word = load[0] & 31U << 5;
 	unsigned i = 1;
-	while (i < LONGEST_PAIR && overwritten[place + i] == 0 && (kind_of(load[i]) != STORE_EXCLUSIVE || (load[i] & 31U << 5) != word))
+	while (i < LONGEST_PAIR && overwritten[place + i] == 0 &&
+	    (kind_of(load[i]) != STORE_EXCLUSIVE || (load[i] & 31U << 5) != word))
 		i++;
 	if (i == LONGEST_PAIR)
 		refuse(table, address, (uintptr_t)load, load[0]);
 	if (overwritten[place + i] != 0)
 		return;
 	overwritten[place + i] = load[i];
-	EXPECT(mprotect((void *)((uintptr_t)&load[i] / page * page), page, PROT_READ | PROT_WRITE | PROT_EXEC) == 0);
+	EXPECT(mprotect((void *)((uintptr_t)&load[i] / page * page), page,
+	    PROT_READ | PROT_WRITE | PROT_EXEC) == 0);
 	load[i] = FORMS[STORE].bits | word | (load[i] & 31);
 	__builtin___clear_cache((char *)&load[i], (char *)&load[i + 1]);
 }
@@ -184,7 +206,10 @@ static void *outermost(void)
 	return depth > 0 ? places[depth - 1] : NULL;
 }
 
-/* The instruction came to a table. The first time it is seen whether the stack leads home from there. */
+/*
+ * The instruction came to a table. The first time it is seen whether the stack leads home from
+ * there.
+ */
 static void meet(uint64_t place, uint64_t address)
 {
 	if (met[place] != 0)
@@ -234,14 +259,15 @@ static unsigned close_tables(void)
 	return made;
 }
 
-registry_answer __wrap_registry_open(const struct registry_settings *settings, struct registry_keeper *keeper, struct registry_cpu *cpus, size_t count)
+enum kupaldiz_result __wrap_kupaldiz_open(const struct kupaldiz_settings *settings,
+    struct kupaldiz_keeper *keeper, struct kupaldiz_cpu *cpus, size_t count)
 {
 	home = outermost();
 	table_bytes = settings != NULL ? TABLE_BYTES(settings->slots, settings->cpus) : 0;
-	registry_answer answer = __real_registry_open(settings, keeper, cpus, count);
+	enum kupaldiz_result result = __real_kupaldiz_open(settings, keeper, cpus, count);
 	table_bytes = 0;
-	EXPECT(close_tables() == (answer == REGISTRY_DONE ? 1 : 0));
-	return answer;
+	EXPECT(close_tables() == (result == KUPALDIZ_DONE ? 1 : 0));
+	return result;
 }
 
 static void write_sites(const char *path)
@@ -250,7 +276,8 @@ static void write_sites(const char *path)
 	EXPECT(file != NULL);
 	for (size_t place = 0; place < MOST_CODE; place++)
 		if (met[place] != 0)
-			fprintf(file, "%lx\n", (unsigned long)((uintptr_t)__executable_start + place * sizeof(uint32_t)));
+			fprintf(file, "%lx\n", (unsigned long)((uintptr_t)__executable_start +
+			    place * sizeof(uint32_t)));
 	EXPECT(fclose(file) == 0);
 }
 
@@ -259,8 +286,10 @@ static void report(void)
 	const char *path = getenv("ORDERED_SITES");
 	if (path != NULL)
 		write_sites(path);
-	fprintf(stderr, "ordered: %s %lu, %s %lu, %s %lu, %s %lu, and no other instruction, at %lu places\n", FORMS[LOAD].name, counts[LOAD], FORMS[STORE].name,
-	    counts[STORE], FORMS[LOAD_EXCLUSIVE].name, counts[LOAD_EXCLUSIVE], FORMS[STORE_EXCLUSIVE].name, counts[STORE_EXCLUSIVE], places_met);
+	fputs("ordered:", stderr);
+	for (enum kind kind = 0; kind < KINDS; kind++)
+		fprintf(stderr, " %s %lu,", FORMS[kind].name, counts[kind]);
+	fprintf(stderr, " and no other instruction, at %lu places\n", places_met);
 	if (lost != 0) {
 		fprintf(stderr, "ordered: %lu of these places have no way home\n", lost);
 		_exit(1);

@@ -1,3 +1,6 @@
-/* pauses.h - leads the pause instruction of waiting.c to turns.c: it is included before all of both files */
+/*
+ * pauses.h - leads the pause instruction of the modules of kupaldiz_waiting.h to turns.c: it is
+ * included before all of each file
+ */
 void pause_seen(void);
-#define SPIN_PAUSE pause_seen
+#define SPIN_PAUSE	pause_seen

@@ -1,17 +1,26 @@
 /*
- * recalls - registry_look_up and registry_get, stopped after each of their instructions, while changes go on from each of their writes to each later one
+ * recalls - lookups by memory, by a reference and by a section, stopped after each of their
+ * instructions, while changes go on from each of their writes to each later one
  *
- * One thread changes the registry, round after round: it detaches and destroys two drivers, and attaches two by the same names, each in the slot of the
- * other. The other thread looks one of the two up: first by registry_look_up, then by registry_get, whose reference is released at once. So the entry that
- * its CPU remembers is live or not, its slot has another name, or its name is in another slot.
+ * One thread changes the registry, round after round. First it detaches and destroys two entries,
+ * and attaches two by the same names, each in the slot of the other. Then it replaces one of them,
+ * and destroys the old one. A lookup that is stopped has a whole replacement in its stop. A
+ * replacement that is stopped after a write has a whole lookup there, which finds the old entry or
+ * the new one. The other thread looks that one up, and releases at once what it acquires. So the
+ * entry that its CPU remembers is live or not, its slot has another name, or its name is in another
+ * slot.
  *
- * One of the two threads runs at a time. In a round the changer stops twice, each time before a write to the registry's table or at the round's end. At
- * the first stop a lookup begins, and goes on for some instructions. At the second one it goes on to its end, and another lookup is made. Every second time
- * one is made as the round begins, too. Any SHARE adjacent numbers of instructions have all pairs of stops. A lookup that is stopped, and keeps a driver
- * from being destroyed, goes on to its end before the second stop.
+ * One of the two threads runs at a time. In a round the changer stops twice, each time before a
+ * write to the registry's table or at the round's end. At the first stop a lookup begins, and goes
+ * on for some instructions. At the second one it goes on to its end, and another lookup is made.
+ * Every second time one is made as the round begins, too. Any SHARE adjacent numbers of
+ * instructions have all pairs of stops. A lookup that is stopped, and keeps an entry from being
+ * destroyed, goes on to its end before the second stop.
  *
- * The table can't be written, so each write ends in a signal. There the changer stops, and then the write is done by one instruction while the table is
- * open. The looker stops by a trap after an instruction. The program is linked with --wrap for malloc, so that the table has pages of its own.
+ * The table can't be written, so each write ends in a signal. There the changer stops, and then the
+ * write is done by one instruction while the table is open. The looker stops by a trap after an
+ * instruction. The program is linked with --wrap for malloc, so that the table has pages of its
+ * own.
  */
 #include <semaphore.h>
 #include <signal.h>
@@ -21,23 +30,32 @@
 #include "client.h"
 #include "wrapped_heap.h"
 
-enum { SLOTS = 2, TRAP_FLAG = 0x100, NEVER = 1000000, AT_ITS_END = NEVER - 1, SHARE = 61, PAGE = 4096 };
+enum { SLOTS = 3, TRAP_FLAG = 0x100, NEVER = 1000000, AT_ITS_END = NEVER - 1, SHARE = 61 };
 
 /* The two threads, and the CPU of each. The looker has a second CPU, the witness. */
 enum { CHANGER, LOOKER, WITNESS, CPUS };
 
-/* In the table, the section word of the looker's CPU, which its passive words follow; and the table's bytes. */
-enum { OWN_WORDS = TABLE_ROW(SLOTS, LOOKER), BYTES = TABLE_BYTES(SLOTS, CPUS), PAGES = (BYTES + PAGE - 1) / PAGE * PAGE };
+/* In the table, the section word of the looker's CPU, which its passive words follow. */
+enum { OWN_WORDS = TABLE_ROW(SLOTS, LOOKER), PAGE = 4096 };
+enum { BYTES = TABLE_BYTES(SLOTS, CPUS), PAGES = (BYTES + PAGE - 1) / PAGE * PAGE };
 
-static struct registry_keeper keeper;
-static struct registry_cpu cpus[CPUS];
+static struct kupaldiz_keeper keeper;
+static struct kupaldiz_cpu cpus[CPUS];
 
-/* The names of the driver that is looked up, and of the other one. What the looker's CPU remembers: the driver's number, or 0, and the number of the newest
-   entry as it found none in a section, or 0 if that isn't certain. After how many changes the registry was as the last lookup of any CPU had it. */
-static struct registry_name wm, other;
+/* The names of the entry that is looked up, and of the other one. */
+static struct kupaldiz_name wm, other;
+
+/*
+ * What the looker's CPU remembers: the entry's number, or 0, and the number of the newest entry as
+ * it found none in a section, or 0 if that isn't certain. After how many changes the registry was
+ * as the last lookup of any CPU had it.
+ */
 static uint64_t remembered, missed, last_seen;
 
-/* The table's memory, which can be written only while a write of a thread's is done; and the blocks of its size: the second is the table. */
+/*
+ * The table's memory, which can be written only while a write of a thread's is done; and the blocks
+ * of its size: the second is the table.
+ */
 static char *table;
 static unsigned table_blocks;
 
@@ -46,20 +64,38 @@ static sem_t turns[2];
 static _Thread_local int self;
 static _Thread_local bool writes_now;
 
-/* What the changer has done: changes begun and returned, the last driver destroyed; writes of this round, before which of them it stops, and after how many
-   instructions the lookup that begins then. Once the second stop is past, no write is looked at until the round ends. */
-static uint64_t begun, returned, destroyed;
-static unsigned writes, first_stop = NEVER, second_stop = NEVER, stopped_after;
-static bool is_past;
+/*
+ * What the changer has done: changes begun and returned, and the last entry destroyed. From the
+ * change `replaces_from` on each is a replacement; the entry was the one with that number before.
+ */
+static uint64_t begun, returned, destroyed, replaces_from = UINT64_MAX, replaced_first;
 
-/* The call that the looker makes, and the most instructions that it has. After how many it stops. How far it is: instructions, writes to its CPU's words,
-   and whether it returned. */
-static registry_answer (*call)(struct registry_cpu *cpu, uint64_t kind, const struct registry_name *name, struct registry_entry *found);
+/*
+ * Writes of this round, before which of them the changer stops, and after how many instructions the
+ * lookup that begins then. Past the second stop no write is looked at until the round ends.
+ */
+static unsigned writes, first_stop = NEVER, second_stop = NEVER, stopped_after;
+static bool is_past_stops;
+
+/* How the looker looks up, what that is called, and how many sections of its own it has. */
+static const struct way {
+	const char *name;
+	enum kupaldiz_result (*look_up)(struct kupaldiz_passive *reference);
+	bool refers, enters;
+} *way;
+
+/*
+ * The most instructions that a lookup has. After how many it stops. How far it is: instructions,
+ * writes to its CPU's words, and whether it returned.
+ */
 static unsigned longest, stop_after = NEVER, steps, section_writes, passive_writes;
 static bool has_ended = true, over;
 
-/* By this call: lookups, those without a section, those that found the name in another slot than was remembered, those begun while another name had that
-   slot; and how often one kept a driver from being destroyed, by its section and by its reference. */
+/*
+ * By this way: lookups, those without a section, those that found the name in another slot than was
+ * remembered, those begun while another name had that slot; and how often one kept an entry from
+ * being destroyed, by its section and by its reference.
+ */
 static struct { unsigned long lookups, recalled, moved, reused, holds[2]; } met;
 
 void *__wrap_malloc(size_t size)
@@ -75,6 +111,8 @@ static void protect(int access)
 {
 	EXPECT(table != NULL && mprotect(table, PAGES, access) == 0);
 }
+
+/* ---- The two threads, by turns. ---- */
 
 static void wait_for_turn(void)
 {
@@ -103,7 +141,7 @@ static void stop_again(void)
 		hand_over();
 	look(NEVER);
 	second_stop = NEVER;
-	is_past = true;
+	is_past_stops = true;
 }
 
 static void stop_at(unsigned place)
@@ -120,10 +158,14 @@ static void set_trap(void *context, bool on)
 	*flags = on ? *flags | TRAP_FLAG : *flags & ~(greg_t)TRAP_FLAG;
 }
 
-/* A write to the table is to be done: the looker's are to its CPU's section word, or to a passive word. */
+/*
+ * A write to the table is to be done: the looker's are to its CPU's section word, or to a passive
+ * word.
+ */
 static void on_write(int number, siginfo_t *info, void *context)
 {
-	uintptr_t distance = (uintptr_t)info->si_addr - (uintptr_t)table, place = distance / sizeof(uint64_t);
+	uintptr_t distance = (uintptr_t)info->si_addr - (uintptr_t)table;
+	uintptr_t place = distance / sizeof(uint64_t);
 	if (writes_now || distance >= BYTES) {
 		signal(number, SIG_DFL);
 		return;
@@ -134,7 +176,7 @@ static void on_write(int number, siginfo_t *info, void *context)
 	else
 		(*(place == OWN_WORDS ? &section_writes : &passive_writes))++;
 	protect(PROT_READ | PROT_WRITE);
-	writes_now = !is_past;
+	writes_now = !is_past_stops;
 	set_trap(context, writes_now);
 }
 
@@ -154,68 +196,94 @@ static void on_step(int number, siginfo_t *info, void *context)
 	set_trap(context, is_counted);
 }
 
+/* ---- What a lookup may find, and what it may write. ---- */
+
 /* The references of the looker's CPU, by its passive words. */
 static uint64_t references(void)
 {
 	const volatile uint64_t *words = (const volatile uint64_t *)(void *)table + OWN_WORDS + 1;
-	return words[0] + words[1];
+	uint64_t sum = 0;
+	for (unsigned slot = 0; slot < SLOTS; slot++)
+		sum += words[slot];
+	return sum;
 }
 
-/* The number of the driver that is looked up, after so many changes, or 0. Of each eight changes two attach it, to one slot and to the other. */
+/*
+ * The number of the entry that is looked up, after so many changes, or 0. Of each eight changes of
+ * the first rounds two attach it, to one slot and to the other.
+ */
 static uint64_t number_after(uint64_t changes)
 {
-	uint64_t place = changes % 8 % 5;
+	const uint64_t place = changes % 8 % 5;
+	if (changes >= replaces_from)
+		return changes == replaces_from ? replaced_first : changes;
 	return place == 1 ? changes : place == 2 ? changes - 1 : 0;
 }
 
 /* The number of the newest entry, after so many changes, or 0. */
 static uint64_t newest_after(uint64_t changes)
 {
-	uint64_t place = changes % 4;
+	const uint64_t place = changes % 4;
+	if (changes > replaces_from)
+		return changes;
 	return place == 0 ? 0 : place == 3 ? changes - 1 : changes;
 }
 
-/* Whether the looker's CPU knows the result without a section: what it remembers was so all the time. */
+/* Whether the CPU knows the result without a section: what it remembers was so all the time. */
 static bool is_known(uint64_t from, uint64_t to)
 {
-	uint64_t newest = newest_after(to);
-	if (remembered != 0 && number_after(from) == remembered && number_after(to) == remembered)
+	const uint64_t newest = newest_after(to), number = number_after(to);
+	if (remembered != 0 && number_after(from) == remembered && number == remembered)
 		return true;
-	return from == to && number_after(to) == 0 && (newest == 0 || newest == missed);
+	return from == to && number == 0 && (newest == 0 || newest == missed);
 }
 
-/* The result of a lookup is what the registry had after so many changes, and from no earlier moment than the one before it, of any CPU. */
+/*
+ * The result of a lookup is what the registry had after so many changes, and from no earlier moment
+ * than the one before it, of any CPU.
+ */
 static void judge_moment(uint64_t from, uint64_t to, uint64_t number)
 {
 	last_seen = from > last_seen ? from : last_seen;
 	while (last_seen <= to && number_after(last_seen) != number)
 		last_seen++;
 	EXPECT(last_seen <= to);
+	EXPECT(number != 0 || from < replaces_from);
 }
 
-/* What a lookup wrote: it began after `from` changes had returned, and ended before the one after `to` began. A section writes the CPU's section word twice.
-   A lookup has one, and a get one more if it tries what it has found in vain. A get writes its passive word once for its reference, and twice for each such
-   try. */
+/*
+ * What a lookup wrote: it began after `from` changes had returned, and ended before the one after
+ * `to` began. A section writes the CPU's section word twice. A lookup by memory has one if the CPU
+ * doesn't know the result, and a get one more if it tries what it has found in vain. A get writes
+ * its passive word once for its reference, and twice for each such try.
+ */
 static void judge_writes(uint64_t from, uint64_t to, uint64_t number)
 {
-	bool is_recalled = section_writes == 0 && number == remembered;
-	uint64_t vain = call == registry_get && remembered != 0 && !is_recalled, again = section_writes == 4;
-	EXPECT(references() == (call == registry_get && number != 0));
+	const bool is_recalled = section_writes == 0 && number == remembered;
+	const uint64_t vain = way->refers && remembered != 0 && !is_recalled;
+	const uint64_t again = section_writes == 4;
+	EXPECT(references() == (way->refers && number != 0));
 	EXPECT(passive_writes == references() + 2 * (vain + again));
-	if (section_writes == 0)
+	if (way->enters)
+		EXPECT(section_writes == 2);
+	else if (section_writes == 0)
 		EXPECT(number == 0 || number == remembered);
 	else
-		EXPECT((section_writes == 2 || (section_writes == 4 && call == registry_get)) && !is_known(from, to));
+		EXPECT(!is_known(from, to) && (section_writes == 2 || (again && way->refers)));
 }
 
 /* The same, and what the lookup returned. */
-static void judge(uint64_t from, uint64_t to, registry_answer answer, const struct registry_entry *found)
+static void judge(uint64_t from, uint64_t to, enum kupaldiz_result result,
+    const struct kupaldiz_entry *found)
 {
-	uint64_t number = answer == REGISTRY_DONE ? found->number : 0;
-	EXPECT(answer == REGISTRY_DONE || answer == REGISTRY_NOT_FOUND);
-	EXPECT(number == 0 || (found->kind == REGISTRY_DRIVER && found->name.high == wm.high && found->name.low == wm.low));
-	EXPECT(number == 0 || (found->value == number * 3 && found->slot == (number % 8 == 6 ? 1 : 0)));
-	EXPECT(call != registry_get || number == 0 || number > destroyed);
+	const uint64_t number = result == KUPALDIZ_DONE ? found->number : 0;
+	EXPECT(result == KUPALDIZ_DONE || result == KUPALDIZ_NOT_FOUND);
+	if (number != 0)
+		EXPECT(found->kind == KUPALDIZ_ENTRY && same_name(&found->name, &wm) &&
+		    found->value == number * 3);
+	if (number != 0 && from < replaces_from)
+		EXPECT(found->slot == (number % 8 == 6 ? 1 : 0));
+	EXPECT(!way->refers || number == 0 || number > destroyed);
 	judge_writes(from, to, number);
 	met.lookups++;
 	met.recalled += section_writes == 0;
@@ -223,41 +291,70 @@ static void judge(uint64_t from, uint64_t to, registry_answer answer, const stru
 	met.reused += remembered != 0 && from % 8 == 5;
 	judge_moment(from, to, number);
 	if (number == 0 && section_writes != 0)
-		missed = from == to ? newest_after(to) : 0;
+		missed = from == to && !way->enters ? newest_after(to) : 0;
 	if (number != 0 || section_writes != 0)
 		remembered = number;
 }
 
-/* Finds the driver on the other CPU. */
+/* ---- The looker. ---- */
+
+static enum kupaldiz_result by_memory(struct kupaldiz_passive *reference)
+{
+	return kupaldiz_look_up(&cpus[LOOKER], KUPALDIZ_ENTRY, &wm, &reference->entry);
+}
+
+static enum kupaldiz_result by_get(struct kupaldiz_passive *reference)
+{
+	return kupaldiz_get(&cpus[LOOKER], KUPALDIZ_ENTRY, &wm, reference);
+}
+
+static enum kupaldiz_result by_section(struct kupaldiz_passive *reference)
+{
+	struct kupaldiz_cpu *cpu = &cpus[LOOKER];
+	enum kupaldiz_result result =
+	    kupaldiz_enter_find(cpu, KUPALDIZ_ENTRY, &wm, &reference->entry);
+	if (result == KUPALDIZ_DONE)
+		kupaldiz_exit(cpu);
+	return result;
+}
+
+static const struct way WAYS[] = {{"by memory", by_memory, false, false},
+    {"by get", by_get, true, false}, {"by section", by_section, false, true}};
+
+/* Finds the entry on the other CPU. */
 static void witness(void)
 {
-	struct registry_entry found = {0};
+	struct kupaldiz_cpu *cpu = &cpus[WITNESS];
+	struct kupaldiz_entry found = {0};
 	protect(PROT_READ | PROT_WRITE);
-	DONE(registry_enter(&cpus[WITNESS]));
-	registry_answer answer = registry_find(&cpus[WITNESS], REGISTRY_DRIVER, &wm, &found);
-	DONE(registry_exit(&cpus[WITNESS]));
+	DONE(kupaldiz_enter(cpu));
+	enum kupaldiz_result result = kupaldiz_find(cpu, KUPALDIZ_ENTRY, &wm, &found);
+	DONE(kupaldiz_exit(cpu));
 	protect(PROT_READ);
-	judge_moment(returned, begun, answer == REGISTRY_DONE ? found.number : 0);
+	judge_moment(returned, begun, result == KUPALDIZ_DONE ? found.number : 0);
 }
 
 /* What a get has acquired is released: exactly one reference. */
 static void look_up(void)
 {
-	struct registry_entry found = {0};
-	uint64_t from = returned;
+	struct kupaldiz_passive reference = {0};
+	const uint64_t from = returned;
 	witness();
 	steps = section_writes = passive_writes = 0;
 	if (stop_after != NEVER)
 		__asm__ volatile("pushfq; orq $0x100, (%%rsp); popfq" ::: "cc", "memory");
-	registry_answer answer = call(&cpus[LOOKER], REGISTRY_DRIVER, &wm, &found);
+	enum kupaldiz_result result = way->look_up(&reference);
 	__asm__ volatile("pushfq; andq $~0x100, (%%rsp); popfq" ::: "cc", "memory");
 	if (stop_after == AT_ITS_END && steps > longest)
 		longest = steps;
 	steps = NEVER;
-	judge(from, begun, answer, &found);
-	if (call == registry_get && answer == REGISTRY_DONE) {
-		DONE(registry_release(&cpus[LOOKER], found.number));
-		EXPECT(registry_release(&cpus[LOOKER], found.number) == REGISTRY_NOT_HELD && references() == 0);
+	judge(from, begun, result, &reference.entry);
+	if (way->refers && result == KUPALDIZ_DONE) {
+		const struct kupaldiz_passive was = reference;
+		DONE(kupaldiz_release(&cpus[LOOKER], &reference));
+		reference = was;
+		IS(NOT_HELD, kupaldiz_release(&cpus[LOOKER], &reference));
+		EXPECT(references() == 0);
 	}
 	has_ended = true;
 }
@@ -271,52 +368,80 @@ static void *look_all(void *unused)
 	return unused;
 }
 
-static void attach(const struct registry_name *name)
+/* ---- The changer. ---- */
+
+static void attach(const struct kupaldiz_name *name)
 {
-	struct registry_entry made;
+	struct kupaldiz_entry made;
 	begun++;
-	DONE(registry_attach(&keeper, &cpus[CHANGER], name, begun * 3, &made));
+	DONE(kupaldiz_attach(&keeper, &cpus[CHANGER], name, begun * 3, &made));
 	EXPECT(made.number == begun);
 	returned++;
 }
 
-/* Detaches a driver. One turn destroys it, unless a lookup that is stopped holds it, or may. Then that goes on to its end, and the next turn does. */
-static void detach(const struct registry_name *name)
+/*
+ * One turn destroys an entry, unless a lookup that is stopped holds it, or may. Then that goes on
+ * to its end, and the next turn does.
+ */
+static void destroy(uint64_t number)
 {
-	struct registry_entry gone;
-	struct registry_stage stage;
-	begun++;
-	DONE(registry_detach(&keeper, &cpus[CHANGER], REGISTRY_DRIVER, name, &gone));
-	returned++;
-	registry_answer answer = registry_destroy(&keeper, &cpus[CHANGER], gone.number, &stage);
-	if (answer == REGISTRY_STILL_HELD) {
-		EXPECT(!has_ended && stage.what == LOOKER && (stage.stage == REGISTRY_GRACE || stage.stage == REGISTRY_PASSIVE));
-		EXPECT(stage.stage == REGISTRY_GRACE ? section_writes % 2 == 1 : references() == 1);
+	struct kupaldiz_met stage;
+	enum kupaldiz_result result = kupaldiz_destroy(&keeper, number, &stage);
+	if (result == KUPALDIZ_STILL_HELD) {
+		EXPECT(!has_ended && stage.what == LOOKER && stage.stage <= KUPALDIZ_PASSIVE);
+		EXPECT(stage.stage == KUPALDIZ_GRACE ? section_writes % 2 == 1 : references() == 1);
 		met.holds[stage.stage]++;
 		stop_again();
-		answer = registry_destroy(&keeper, &cpus[CHANGER], gone.number, &stage);
+		result = kupaldiz_destroy(&keeper, number, &stage);
 	}
-	DONE(answer);
-	destroyed = gone.number;
+	DONE(result);
+	destroyed = number;
 }
 
-/* A round: how many writes it has, if there is no second stop. It begins with `wm` in the lower slot, or with the other driver, in turn. */
-static unsigned change(bool begins_known, unsigned first, unsigned second, unsigned after)
+static void detach(const struct kupaldiz_name *name)
+{
+	struct kupaldiz_entry gone;
+	begun++;
+	DONE(kupaldiz_detach(&keeper, &cpus[CHANGER], KUPALDIZ_ENTRY, name, &gone));
+	returned++;
+	destroy(gone.number);
+}
+
+/* It begins with the entry in the lower slot, or with the other one, in turn. */
+static void exchange(void)
 {
 	const bool is_low = returned % 8 == 2;
-	const struct registry_name *low = is_low ? &wm : &other, *high = is_low ? &other : &wm;
+	const struct kupaldiz_name *low = is_low ? &wm : &other, *high = is_low ? &other : &wm;
+	detach(low);
+	detach(high);
+	attach(high);
+	attach(low);
+}
+
+static void replace(void)
+{
+	struct kupaldiz_entry gone, made;
+	const uint64_t before = number_after(begun++);
+	DONE(kupaldiz_replace(&keeper, &cpus[CHANGER], &wm, begun * 3, &gone, &made));
+	EXPECT(made.number == begun && gone.number == before && made.slot != gone.slot);
+	returned++;
+	destroy(gone.number);
+}
+
+static void (*change)(void) = exchange;
+
+/* A round: how many writes it has, if there is no second stop. */
+static unsigned run_round(bool begins_known, unsigned first, unsigned second, unsigned after)
+{
 	if (begins_known)
 		look(NEVER);
 	writes = 0;
 	first_stop = first;
 	second_stop = second;
 	stopped_after = after;
-	detach(low);
-	detach(high);
-	attach(high);
-	attach(low);
+	change();
 	stop_at(writes);
-	is_past = false;
+	is_past_stops = false;
 	protect(PROT_READ);
 	return writes;
 }
@@ -324,45 +449,65 @@ static unsigned change(bool begins_known, unsigned first, unsigned second, unsig
 /* A share of the rounds in which the lookup stops after so many instructions. */
 static void stop_after_each(unsigned last, unsigned after)
 {
-	for (unsigned stops = after % SHARE; stops < (last + 1) * (last + 1); stops += SHARE)
-		if (stops / (last + 1) <= stops % (last + 1))
-			(void)change(after / SHARE % 2 == 0, stops / (last + 1), stops % (last + 1), after);
+	const unsigned stops = last + 1;
+	for (unsigned pair = after % SHARE; pair < stops * stops; pair += SHARE)
+		if (pair / stops <= pair % stops)
+			run_round(after / SHARE % 2 == 0, pair / stops, pair % stops, after);
 }
 
-/* All rounds with lookups by this call. The first ones tell how many writes a round has, and how many instructions a lookup. */
-static void stop_in(registry_answer (*made)(struct registry_cpu *, uint64_t, const struct registry_name *, struct registry_entry *))
+/*
+ * All rounds with lookups of this way. The first ones tell how many writes a round has, and how
+ * many instructions a lookup.
+ */
+static void stop_in(const struct way *of)
 {
-	call = made;
+	way = of;
 	longest = 0;
 	memset(&met, 0, sizeof met);
-	unsigned last = change(true, NEVER, NEVER, NEVER);
+	unsigned last = run_round(true, NEVER, NEVER, NEVER);
 	for (unsigned i = 0; i < 2; i++)
-		(void)change(true, last, last, AT_ITS_END);
+		run_round(true, last, last, AT_ITS_END);
 	for (unsigned after = 1; after <= longest; after++)
 		stop_after_each(last, after);
-	EXPECT(met.recalled > 0 && met.recalled < met.lookups && met.moved > 0 && met.reused > 0);
-	EXPECT(met.holds[REGISTRY_GRACE] > 0 && (met.holds[REGISTRY_PASSIVE] > 0) == (made == registry_get));
-	printf("%u writes, %u instructions: %lu lookups, %lu of them without a section\n", last, longest, met.lookups, met.recalled);
+	EXPECT(met.moved > 0 && (change == replace || met.reused > 0));
+	EXPECT(of->enters ? met.recalled == 0 : met.recalled > 0 && met.recalled < met.lookups);
+	EXPECT(met.holds[KUPALDIZ_GRACE] > 0 && (met.holds[KUPALDIZ_PASSIVE] > 0) == of->refers);
+	printf("%s, %s: %u writes, %u instructions, %lu lookups, %lu of them without a section\n",
+	    change == replace ? "replaced" : "exchanged", of->name, last, longest, met.lookups,
+	    met.recalled);
+}
+
+static void open_all(void)
+{
+	struct kupaldiz_settings settings = KUPALDIZ_SETTINGS(CPUS, SLOTS);
+	struct sigaction write = {.sa_sigaction = on_write, .sa_flags = SA_SIGINFO};
+	struct sigaction step = {.sa_sigaction = on_step, .sa_flags = SA_SIGINFO};
+	settings.passive_limit = settings.count_limit = 1;
+	DONE(kupaldiz_open(&settings, &keeper, cpus, CPUS));
+	EXPECT(sigaction(SIGSEGV, &write, NULL) == 0 && sigaction(SIGTRAP, &step, NULL) == 0);
+	protect(PROT_READ);
+	EXPECT(sem_init(&turns[CHANGER], 0, 0) == 0 && sem_init(&turns[LOOKER], 0, 0) == 0);
 }
 
 int main(void)
 {
-	const struct registry_settings settings = {CPUS, SLOTS, REGISTRY_MOST_CHANGES, REGISTRY_MOST_SECTIONS, 1, 1};
-	struct sigaction write = {.sa_sigaction = on_write, .sa_flags = SA_SIGINFO}, step = {.sa_sigaction = on_step, .sa_flags = SA_SIGINFO};
-	pthread_t looker;
 	wm = name_of("wm");
 	other = name_of("vga");
-	DONE(registry_open(&settings, &keeper, cpus, CPUS));
-	EXPECT(sigaction(SIGSEGV, &write, NULL) == 0 && sigaction(SIGTRAP, &step, NULL) == 0);
-	protect(PROT_READ);
-	EXPECT(sem_init(&turns[CHANGER], 0, 0) == 0 && sem_init(&turns[LOOKER], 0, 0) == 0);
-	EXPECT(pthread_create(&looker, NULL, look_all, NULL) == 0);
+	open_all();
+	pthread_t looker = started(look_all, NULL);
 	attach(&wm);
 	attach(&other);
-	stop_in(registry_look_up);
-	stop_in(registry_get);
+	for (size_t i = 0; i < COUNT_OF(WAYS); i++)
+		stop_in(&WAYS[i]);
+	while (returned % 8 != 2)
+		run_round(false, NEVER, NEVER, NEVER);
+	replaced_first = number_after(returned);
+	replaces_from = returned;
+	change = replace;
+	for (size_t i = 0; i < COUNT_OF(WAYS); i++)
+		stop_in(&WAYS[i]);
 	over = true;
 	hand_over();
-	EXPECT(pthread_join(looker, NULL) == 0);
+	joined(looker);
 	return 0;
 }

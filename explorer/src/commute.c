@@ -1,16 +1,12 @@
 /*
  * commute.c - which steps commute, and which threads must be tried at a step for those that don't
  *
- * This is dynamic partial-order reduction with source sets and sleep sets: Abdulla, Aronis, Jonsson, Sagonas, "Source Sets: A Foundation for Optimal
- * Dynamic Partial Order Reduction", Journal of the ACM 64(4), 2017. That paper begins with threads which no other thread disables. Here a lock, a
- * wake-up, a soft interrupt or the end of a handler disables others, and so two rules are from Flanagan, Godefroid: "Dynamic Partial-Order Reduction for
- * Model Checking Software", POPL 2005. The search looks back from a step to the last one at which its thread was enabled, and it does so from the
- * step that a disabled thread would make next, too.
+ * This is dynamic partial-order reduction with source sets and sleep sets. REDUCTION.md has its rules, the theorem that they leave nothing out, and which
+ * functions keep its premises: a change here, or of what a call touches, changes that proof.
  *
- * A step comes after another one if they conflict, and after what that one comes after. A guard's reads are among the accesses of its step, or, in a wait
- * for several sections, of its last step. So a step that enables or disables another one conflicts with it. Two conflicting steps of different threads are
- * a race if the later one's thread might have gone on before the earlier step. For each race the search adds a backtrack point: at the earlier step a
- * thread is planned that leads to the later step first.
+ * A step comes after another one if they conflict, and after what that one comes after. A guard's reads are among the accesses of its step. So a step that
+ * enables or disables another one conflicts with it. Two conflicting steps of different threads are a race if the later one's thread might have gone on before
+ * the earlier step. For each race the search adds a backtrack point: at the earlier step a thread is planned that leads to the later step first, or all are.
  *
  * A plain access is no access of a step, unless it is a point of its own. Let two steps that commute here have plain accesses to one memory, and one of
  * them write. Where the two are neighbours nothing orders them, and so the run is wrong by a data race (plain.c), whichever comes first. As long as no run is
@@ -29,8 +25,8 @@ static bool clash(const struct access *one, const struct access *other)
 }
 
 /* How a step is to a later one: they commute; they never change places; it does nothing to the later one but enable it; or they conflict otherwise. A step
- * that enables another one is no race with it: a step ACQUIRES only what its thread waits for before it does anything, and so the two can't change
- * places. Who asks the thread of xcall(9) for a second call enables it anew, and changes nothing of the first. */
+ * that enables another one is no race with it: a step has WAITED only for what its thread couldn't begin it without, and so the two can't change places. One
+ * that takes what it gives back may find it free, and has ACQUIRES too. */
 enum relation { COMMUTE, ORDERED, ENABLES, CONFLICTS };
 
 static enum relation relation_of_accesses(const struct access *first, const struct access *second)
@@ -39,7 +35,7 @@ static enum relation relation_of_accesses(const struct access *first, const stru
 		return COMMUTE;
 	if (((first->how | second->how) & ORDERS) != 0)
 		return ORDERED;
-	return (first->how & (ACQUIRES | RELEASES)) == RELEASES && (second->how & ACQUIRES) != 0 ? ENABLES : CONFLICTS;
+	return (first->how & (ACQUIRES | RELEASES)) == RELEASES && (second->how & WAITED) != 0 ? ENABLES : CONFLICTS;
 }
 
 static enum relation relation_to(const struct access *first, const struct set *second)
@@ -113,6 +109,13 @@ static void add_backtrack_point(unsigned earlier, unsigned later)
 	step->backtrack |= (can & own) != 0 ? own : can & (~can + 1);
 }
 
+/* Plans each thread at the earlier step: the later one's could go on before it, and not right after it. */
+static void add_all_backtrack_points(unsigned earlier)
+{
+	struct step *step = &search->steps[earlier];
+	step->backtrack |= step->enabled & ~step->throttled;
+}
+
 /* Whether the thread of a step, which its step before has left at its guard, was enabled at an earlier step of another thread. */
 static bool was_enabled(unsigned earlier, unsigned later, int before)
 {
@@ -124,7 +127,7 @@ static bool was_enabled(unsigned earlier, unsigned later, int before)
 
 /* Sets a step among the first `upto`. The races that it has, in a list: how many. `covered` has what comes before a race at which the step's thread was
  * enabled: once the two have changed places, the search looks back further. A step that was never made comes after no barrier. */
-static unsigned order_step(unsigned at, unsigned upto, unsigned *races)
+static unsigned order_step(unsigned at, unsigned upto, struct race *races)
 {
 	struct step *step = &search->steps[at];
 	clocks base = {0}, covered;
@@ -146,11 +149,12 @@ static unsigned order_step(unsigned at, unsigned upto, unsigned *races)
 		enum relation relation = relation_of(&found->set, &step->set);
 		if (relation == COMMUTE || (relation == ORDERED && at == search->length))
 			continue;
+		bool direct = at < search->length && !comes_after(step->clock, (unsigned)other);
 		join(step->clock, found->clock);
 		if (relation != CONFLICTS || comes_after(covered, (unsigned)other))
 			continue;
-		races[count++] = (unsigned)other;
-		if (was_enabled((unsigned)other, at, before))
+		races[count++] = (struct race){(unsigned)other, direct};
+		if (step->chosen != CLOCK && was_enabled((unsigned)other, at, before))
 			join(covered, found->clock);
 	}
 	step->clock[step->chosen] = at + 1;
@@ -160,9 +164,14 @@ static unsigned order_step(unsigned at, unsigned upto, unsigned *races)
 /* Sets a step among the first `upto`, and adds the backtrack points that it asks for. */
 void find_races(unsigned at, unsigned upto)
 {
-	unsigned *races = scratch->races, count = order_step(at, upto, races);
-	for (unsigned place = 0; place < count; place++)
-		add_backtrack_point(races[place], at);
+	struct race *races = scratch->races;
+	unsigned count = order_step(at, upto, races);
+	for (unsigned place = 0; place < count; place++) {
+		if (races[place].direct)
+			add_backtrack_point(races[place].at, at);
+		else
+			add_all_backtrack_points(races[place].at);
+	}
 }
 
 /* The same of the step that a thread which is disabled after the first `upto` would have made, as far as its guard says: it has these accesses. */

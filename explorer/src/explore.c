@@ -12,13 +12,13 @@
 #include "inside.h"
 
 struct search *search;
-struct bench_options options;
+struct explorer_options options;
 static void (*prepare)(void);
 
 void refuse(const char *format, ...)
 {
 	va_list words;
-	fprintf(stderr, "%s: ", options.name == NULL ? "bench" : options.name);
+	fprintf(stderr, "%s: ", options.name == NULL ? "explorer" : options.name);
 	va_start(words, format);
 	vfprintf(stderr, format, words);
 	va_end(words);
@@ -27,10 +27,33 @@ void refuse(const char *format, ...)
 	_exit(2);
 }
 
+__attribute__((noinline)) void explorer_fault(const char *line)
+{
+	__asm__ volatile("" : : "r"(line) : "memory");
+}
+
 void end_run(enum end end, const char *format, ...)
 {
 	FORMAT(search->found.line, format);
+	if (end == FAILED)
+		explorer_fault(search->found.line);
+	if (end == FAILED && options.goes_on)
+		find_races_of_fault();
 	leave_run(end);
+}
+
+/* No target and no local count is left. */
+static void check_no_owner_left(void)
+{
+	char text[EXPLORER_LINE] = "";
+	const struct owner *left = live_owner();
+	if (left == NULL)
+		return;
+	bool held = left->counts != NULL && left->counts->held > 0;
+	const struct thing *thing = row_for(THINGS, (uintptr_t)left->at);
+	if (held)
+		append_held(text, left->at);
+	fail("what %s has made at %s is left at the end%s%s", thing->made.call, place_made(thing), held ? ", with " : "", text);
 }
 
 static void run_setup(void *arg)
@@ -49,9 +72,7 @@ static void run_setup(void *arg)
 	if (options.finish != NULL)
 		options.finish();
 	end_of_thread(kupaldiz_self);
-	size_t held = 0;
-	if (live_owner(&held) != NULL)
-		fail(held > 0 ? "a local count with %zu references is left at the end" : "a target or a local count is left at the end", held);
+	check_no_owner_left();
 	check_heap();
 	if (options.finish != NULL)
 		check_none_left();
@@ -61,11 +82,11 @@ static void run_setup(void *arg)
 
 static void keep_outcome(void)
 {
-	struct bench_found *found = &search->found;
-	struct bench_outcome *at = found->outcome;
+	struct explorer_found *found = &search->found;
+	struct explorer_outcome *at = found->outcome;
 	while (at < &found->outcome[found->outcomes] && strcmp(at->text, run.outcome) != 0)
 		at++;
-	if (at == &found->outcome[BENCH_OUTCOMES]) {
+	if (at == &found->outcome[EXPLORER_OUTCOMES]) {
 		found->others++;
 		return;
 	}
@@ -74,9 +95,15 @@ static void keep_outcome(void)
 	at->count++;
 }
 
+static void make_fault_an_outcome(void)
+{
+	snprintf(run.outcome, sizeof(run.outcome), "%.*s", EXPLORER_TEXT - 1, search->found.line);
+	search->found.line[0] = '\0';
+	search->end = ENDED_WELL;
+}
+
 static void run_here(void)
 {
-	struct thread nobody = {.call = "bench_explore"};
 	restore_state();
 	search->failed[0] = '\0';
 	search->end = DIED;
@@ -91,12 +118,13 @@ static void run_here(void)
 	}
 	snprintf(search->names[CLOCK], sizeof(search->names[0]), "clock");
 	kupaldiz_self = NULL;
+	if (search->end == FAILED && options.goes_on)
+		make_fault_an_outcome();
 	if (search->end == ENDED_WELL) {
 		search->found.schedules++;
 		keep_outcome();
 	}
 	search->found.cut += search->end == CUT;
-	close_banks(&nobody);
 }
 
 /* Does something in a process of its own. That one's status. */
@@ -275,7 +303,7 @@ static enum end in_child(void (*body)(void), bool is_silent)
 	return FAILED;
 }
 
-static void keep_schedule(struct bench_found *found)
+static void keep_schedule(struct explorer_found *found)
 {
 	const struct step *last = &search->steps[search->length == 0 ? 0 : search->length - 1];
 	found->preemptions = search->length == 0 ? 0 : last->preemptions;
@@ -286,7 +314,7 @@ static void keep_schedule(struct bench_found *found)
 }
 
 /* Looks for a schedule with at most so many preemptions and switches that goes wrong by the same line. Whether there is one, which is kept then. */
-static bool find_shorter(struct bench_found *found, unsigned preemptions, unsigned switches)
+static bool find_shorter(struct explorer_found *found, unsigned preemptions, unsigned switches)
 {
 	begin_search(BOUNDED, options.bounded, preemptions);
 	search->most = switches;
@@ -299,7 +327,7 @@ static bool find_shorter(struct bench_found *found, unsigned preemptions, unsign
 
 /* Cuts the schedule of a fault down: to few preemptions; then, with no more of them, to few switches; and then to the fewest switches, as far as all
  * schedules with so many can be tried. */
-static void cut_down(struct bench_found *found)
+static void cut_down(struct explorer_found *found)
 {
 	for (unsigned bound = 0; bound < found->preemptions && !find_shorter(found, bound, UINT_MAX); bound++)
 		;
@@ -334,7 +362,7 @@ static void read_schedule(const char *text)
 }
 
 /* Whether the run goes wrong that such a search comes to last. */
-static bool goes_wrong(void (*body)(void), struct bench_found *found)
+static bool goes_wrong(void (*body)(void), struct explorer_found *found)
 {
 	enum end end = in_child(body, false);
 	*found = search->found;
@@ -343,7 +371,7 @@ static bool goes_wrong(void (*body)(void), struct bench_found *found)
 	return end == FAILED;
 }
 
-static void explore(struct bench_found *found)
+static void explore(struct explorer_found *found)
 {
 	if (!goes_wrong(search_all, found))
 		return;
@@ -355,10 +383,27 @@ static void explore(struct bench_found *found)
 	in_child(run_once, true);
 }
 
-static void fill_options(const struct bench_options *given)
+/* The schedule in EXPLORER_REPLAY, behind the name of its search; NULL where there is none. */
+static const char *replay_by_environment(void)
 {
-	options = given == NULL ? (struct bench_options){0} : *given;
-	options.name = options.name == NULL ? "bench" : options.name;
+	const char *all = getenv("EXPLORER_REPLAY"), *colon = all == NULL ? NULL : strrchr(all, ':');
+	size_t length = strlen(options.name);
+	if (colon == NULL)
+		return all;
+	return (size_t)(colon - all) == length && strncmp(all, options.name, length) == 0 ? colon + 1 : NULL;
+}
+
+/* Whether only another search of the program is to run. */
+static bool is_passed_over(void)
+{
+	const char *all = getenv("EXPLORER_REPLAY");
+	return all != NULL && options.replay == NULL;
+}
+
+static void fill_options(const struct explorer_options *given)
+{
+	options = given == NULL ? (struct explorer_options){0} : *given;
+	options.name = options.name == NULL ? "explorer" : options.name;
 	options.schedules = options.schedules == 0 ? 100000 : options.schedules;
 	options.bounded = options.bounded == 0 ? 20000 : options.bounded;
 	options.preemptions = options.preemptions == 0 ? 2 : options.preemptions;
@@ -366,7 +411,8 @@ static void fill_options(const struct bench_options *given)
 	options.seed = options.seed == 0 ? 1 : options.seed;
 	options.ticks = options.ticks == 0 ? 1 : options.ticks;
 	options.failures = options.failures == 0 ? 1 : options.failures;
-	refuse_if(options.failures > BENCH_FAILURES, "at most %d failures in a run", BENCH_FAILURES);
+	options.replay = options.replay == NULL ? replay_by_environment() : options.replay;
+	refuse_if(options.failures > EXPLORER_FAILURES, "at most %d failures in a run", EXPLORER_FAILURES);
 }
 
 static void make_search(void)
@@ -386,15 +432,20 @@ static void make_search(void)
 	search->plan_count = 1;
 }
 
-int bench_explore(void (*setup)(void), const struct bench_options *given)
+int explorer_run(void (*setup)(void), const struct explorer_options *given)
 {
-	refuse_if(run.current != NULL, "bench_explore inside of a run");
+	refuse_if(run.current != NULL, "explorer_run inside of a run");
 	fill_options(given);
 	check_own_calls();
 	refuse_if(setup == NULL, "there is no setup");
 	prepare = setup;
 	make_search();
-	struct bench_found *found = &search->told;
+	struct explorer_found *found = &search->told;
+	if (is_passed_over()) {
+		if (options.found != NULL)
+			*options.found = *found;
+		return 0;
+	}
 	if (options.replay != NULL) {
 		read_schedule(options.replay);
 		goes_wrong(run_once, found);
@@ -410,22 +461,24 @@ int bench_explore(void (*setup)(void), const struct bench_options *given)
 	return found->first != 0;
 }
 
-void bench_thread(const char *name, void (*body)(void *), void *arg)
+void explorer_thread(const char *name, void (*body)(void *), void *arg)
 {
 	(void)here(__func__);
-	refuse_if(body == NULL, "bench_thread without a body");
+	refuse_if(body == NULL, "explorer_thread without a body");
 	make_routine(name, body, arg, false);
 	if (run.phase != SETTING_UP)
 		start_routines();
 }
 
-void bench_outcome(const char *format, ...)
+void explorer_outcome(const char *format, ...)
 {
 	(void)here(__func__);
+	/* The order in which threads add to it is part of it. */
+	touch_memory(run.outcome, sizeof(run.outcome), WRITES);
 	size_t length = strlen(run.outcome);
 	va_list words;
 	va_start(words, format);
 	length += (size_t)vsnprintf(run.outcome + length, sizeof(run.outcome) - length, format, words);
 	va_end(words);
-	refuse_if(length >= sizeof(run.outcome), "an outcome has more than %d bytes", BENCH_TEXT - 1);
+	refuse_if(length >= sizeof(run.outcome), "an outcome has more than %d bytes", EXPLORER_TEXT - 1);
 }

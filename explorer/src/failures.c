@@ -53,7 +53,7 @@ static void note_failure(const char *how)
 	    AT_PLACE(kupaldiz_self->place), how, name_of_routine(run.current));
 }
 
-bool bench_fails(void)
+bool explorer_fails(void)
 {
 	if (options.reliable || run.current == NULL || !fails_here())
 		return false;
@@ -61,7 +61,7 @@ bool bench_fails(void)
 	return true;
 }
 
-void bench_may_end_early(bool signals)
+void explorer_may_end_early(bool signals)
 {
 	struct routine *me = run.current;
 	me->may_end = me->last_ending = IN_TIME;
@@ -81,7 +81,7 @@ void note_ending(struct routine *me, bool early)
 		note_failure(me->last_ending == BY_SIGNAL ? "is ended by a signal" : "ends although nobody woke it");
 }
 
-int bench_last_ending(void)
+int explorer_last_ending(void)
 {
 	return (int)run.current->last_ending;
 }
@@ -113,7 +113,7 @@ bool read_failures(const char *text)
 	struct plan *plan = &search->plans[search->plan = 0];
 	*plan = (struct plan){0};
 	for (int length; *text != '\0'; text += length)
-		if (plan->count == BENCH_FAILURES || (length = read_failpoint(text, &plan->of[plan->count++])) == 0)
+		if (plan->count == EXPLORER_FAILURES || (length = read_failpoint(text, &plan->of[plan->count++])) == 0)
 			return false;
 	qsort(plan->of, plan->count, sizeof(plan->of[0]), compare);
 	return true;

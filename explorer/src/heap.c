@@ -31,7 +31,7 @@ static uint32_t *owner_of(const volatile unsigned char *at)
 }
 
 /* A block of memory. One that is judged must be given back by the end. */
-void *bench_allocate(size_t size, size_t align, bool judged)
+void *explorer_allocate(size_t size, size_t align, bool judged)
 {
 	unsigned number = run.current == NULL ? 0 : run.current->number;
 	const struct thread *self = kupaldiz_self;
@@ -134,40 +134,45 @@ static void end_block(struct block *block)
 	block->freed_place = self == NULL ? NULL : self->place;
 }
 
-void bench_free(void *address)
+void explorer_free(void *address)
 {
 	struct block *block = block_at(address);
 	if (address == NULL)
 		return;
 	fail_if(block == NULL || block->at != address, "%s: no block of memory", call_of(kupaldiz_self));
 	check_block(block);
+	touch_memory(block->at, block->size, WRITES);
+	if (run.current != NULL && block->judged) {
+		const struct use use = {.verb = "frees", .place = run.current->place, .writes = true};
+		use_memory(block->at, block->size, &use);
+	}
 	end_block(block);
 	memset(block->at, FREED, block->size);
 }
 
 /* An object of a cache that nobody uses: no call may, until it is got again. */
-void bench_hide(void *at)
+void explorer_hide(void *at)
 {
 	struct block *block = block_at(at);
 	end_block(block);
 	block->hidden = true;
 }
 
-void bench_unhide(void *at)
+void explorer_unhide(void *at)
 {
 	struct block *block = block_at(at);
 	block->live = true;
 	block->hidden = false;
 }
 
-void *bench_realloc(void *address, size_t size)
+void *explorer_realloc(void *address, size_t size)
 {
 	const struct block *block = address == NULL ? NULL : block_at(address);
 	size_t before = block == NULL ? 0 : block->size;
-	void *made = bench_allocate(size, 16, false);
+	void *made = explorer_allocate(size, 16, false);
 	if (address != NULL) {
 		memcpy(made, address, before < size ? before : size);
-		bench_free(address);
+		explorer_free(address);
 	}
 	return made;
 }

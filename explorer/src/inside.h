@@ -1,13 +1,13 @@
 /* inside.h - what the parts of the explorer share; no program includes it */
-#ifndef KUPALDIZ_BENCH_INSIDE_H
-#define KUPALDIZ_BENCH_INSIDE_H
+#ifndef KUPALDIZ_EXPLORER_INSIDE_H
+#define KUPALDIZ_EXPLORER_INSIDE_H
 
 #include "layer.h"
 #include "shim.h"
 
-#include "../bench.h"
+#include "../explorer.h"
 
-enum { THREADS = BENCH_THREADS, POINTS = BENCH_POINTS, ACCESSES = 12, ANY = 0xffff, NOBODY = 0xff };
+enum { THREADS = EXPLORER_THREADS, POINTS = EXPLORER_POINTS, ACCESSES = 12, ANY = 0xffff, NOBODY = 0xff };
 
 enum { CLOCK = THREADS - 1 };	/* the explorer's own thread, which lets time go on */
 enum { STACK = 64 * 4096 };	/* of a routine */
@@ -38,7 +38,8 @@ enum {
 	WRITES = 1,
 	ACQUIRES = 2,	/* what others gave comes before it */
 	RELEASES = 4,
-	ORDERS = 8	/* the later step waits for the earlier one, so the two never change places */
+	ORDERS = 8,	/* the later step waits for the earlier one, so the two never change places */
+	WAITED = 16	/* the step's thread couldn't begin it before this was given */
 };
 
 struct access {
@@ -88,6 +89,8 @@ struct routine {
 	struct thread *self;
 	struct places places;
 	const char *from;	/* the place of the next point that lies in a header */
+	unsigned calls;		/* of the explorer's that it is in */
+	int lowered;		/* the level that one of them has given up */
 	const char *call, *place;	/* the point where it is */
 	const void *pc;		/* of it, where the compiler's call has made it: no text says the place */
 	const volatile void *announced;	/* the atomic access that comes next and has had its point; the thread itself for a barrier */
@@ -103,7 +106,7 @@ struct routine {
 	int made_at;		/* the step; -1 for none */
 	uint16_t failpoints;	/* that it has met */
 	enum ending may_end, last_ending;	/* how the wait may end that it is in, or that comes next; and how the last one did */
-	uint64_t sections[ALL_CPUS];	/* of each CPU the one that its wait waits for; 0 for none */
+	uint64_t sections[KUPALDIZ_CPUS];	/* of each CPU the one that its wait waits for; 0 for none */
 	clocks clock, released, pending;
 };
 
@@ -119,12 +122,12 @@ struct run {
 	int64_t time;
 	unsigned ticks;
 	uint64_t arrivals;
-	bool inside[ALL_CPUS];	/* a section */
-	uint64_t ends[ALL_CPUS];	/* of sections */
+	bool inside[KUPALDIZ_CPUS];	/* a section */
+	uint64_t ends[KUPALDIZ_CPUS];	/* of sections */
 	uint64_t handlers;		/* that have ended */
 	bool own_memory;	/* what is taken now is the layer's own */
 	size_t rows[TABLES];	/* of each table that this run has filled */
-	char outcome[BENCH_TEXT];
+	char outcome[EXPLORER_TEXT];
 };
 
 extern struct run run;
@@ -135,12 +138,22 @@ struct keyed {
 	uint32_t next;
 };
 
+/* A call, and where: a text, or an instruction. */
+struct origin {
+	const char *call, *place;
+	const void *pc;
+};
+
 /* By what the code works on. */
 struct thing {
 	struct keyed by;
-	const char *made;	/* the call that has made a lock, a callout or a work; NULL once it was ended */
+	struct origin made;	/* by which it was made */
+	bool must_end;		/* it is a lock, a callout or a work, and wasn't ended */
 	const char *missed, *missed_at;	/* the last wake-up at a condition variable; NULL where somebody waited for it */
 	uint64_t releases;	/* of references to a target or a count */
+	unsigned held[THREADS];	/* local references that a thread has acquired, and that weren't released */
+	const char *held_at[THREADS];	/* where it acquired the last of them */
+	bool astray;		/* of them one was released that neither its thread nor the setup had acquired */
 };
 
 /* ---- The search: it lies in memory that the parent shares. ---- */
@@ -177,7 +190,7 @@ struct failpoint {
 
 struct plan {
 	unsigned count;
-	struct failpoint of[BENCH_FAILURES];	/* in order */
+	struct failpoint of[EXPLORER_FAILURES];	/* in order */
 };
 
 enum { SPOTS = 256, MOST_PLANS = 4096 };
@@ -189,7 +202,7 @@ struct search {
 	bool apart;		/* each run has a process of its own */
 	unsigned bound;		/* of preemptions */
 	unsigned most;		/* switches */
-	char wanted[BENCH_LINE];	/* what a shorter schedule must go wrong by */
+	char wanted[EXPLORER_LINE];	/* what a shorter schedule must go wrong by */
 	uint64_t limit;
 	unsigned prefix;	/* so many steps are given */
 	unsigned fresh;		/* those from here on are new */
@@ -197,13 +210,13 @@ struct search {
 	unsigned priorities[THREADS], lowest, changes[3];
 	uint64_t seed;
 	uint64_t runs;
-	struct bench_found found, told;	/* by the child; and what the parent makes of it */
+	struct explorer_found found, told;	/* by the child; and what the parent makes of it */
 	char names[THREADS][32];
 	uint32_t ended;		/* a bit for each thread that has */
 	bool stuck;		/* the others can't go on */
 	unsigned plan, plan_count;	/* of failures: the one that is tried, and how many there are */
 	bool plans_left_out;	/* there was no room for one */
-	char failed[BENCH_LINE];	/* what has failed in the run */
+	char failed[EXPLORER_LINE];	/* what has failed in the run */
 	/* A later search finds these as they are. */
 	struct step steps[POINTS + 1];
 	struct plan plans[MOST_PLANS];
@@ -212,7 +225,7 @@ struct search {
 };
 
 extern struct search *search;
-extern struct bench_options options;
+extern struct explorer_options options;
 enum { MOST_UNSEEN = 8 };
 
 extern const char *unseen_files[MOST_UNSEEN];	/* those that are compiled without -fsanitize=thread */
@@ -251,6 +264,12 @@ struct plain {
 	struct use use;
 };
 
+/* A step that conflicts with a later one; `direct` unless the later one comes after a third that comes after it. */
+struct race {
+	unsigned at;
+	bool direct;
+};
+
 enum { LISTS = 1024 };
 
 struct scratch {
@@ -258,7 +277,8 @@ struct scratch {
 		void *rows;
 		size_t room;	/* in rows */
 	} tables[TABLES];
-	unsigned list[POINTS + 1], races[POINTS + 1];
+	unsigned list[POINTS + 1];
+	struct race races[POINTS + 1];
 	uint32_t lists[TABLES][LISTS];	/* by their keys: the row of the first, counted from 1 */
 };
 
@@ -269,11 +289,15 @@ extern struct scratch *scratch;
 /* LAYER - the layer's own call, whose name has layer_ before it in this library. */
 #define LAYER(type, name, parameters)	type layer_##name parameters
 
+/* IN_CALL - the block is a call of the explorer's: at its end the level is raised again that the call has given up to sleep. */
+#define IN_CALL	struct routine *in_call __attribute__((unused, cleanup(end_of_call))) = begin_of_call()
+
 /* WRAPPED - a call that begins with its point and what it touches, and then is the layer's own. Both return nothing where the type is void. */
 #define WRAPPED(type, name, parameters, arguments, ...) \
 	LAYER(type, name, parameters); \
 	type name parameters \
 	{ \
+		IN_CALL; \
 		__VA_ARGS__; \
 		return layer_##name arguments; \
 	}
@@ -283,6 +307,7 @@ extern struct scratch *scratch;
 	LAYER(type, name, parameters); \
 	type name parameters \
 	{ \
+		IN_CALL; \
 		before; \
 		layer_##name arguments; \
 		after; \
@@ -291,6 +316,7 @@ extern struct scratch *scratch;
 	LAYER(type, name, parameters); \
 	type name parameters \
 	{ \
+		IN_CALL; \
 		before; \
 		type answer = layer_##name arguments; \
 		after; \
@@ -317,11 +343,14 @@ void touch(enum kind kind, const volatile void *address, unsigned cpu, unsigned 
 void touch_memory(const volatile void *address, size_t size, unsigned how);
 void make_barrier(void);
 void find_races_at_end(void);
+void find_races_of_fault(void);
 void start_routines(void);
 struct routine *here(const char *call);
 bool is_enabled(const struct routine *routine);
 bool all_have_ended(const struct routine *routine);
 uint32_t enabled_now(void);
+struct routine *begin_of_call(void);
+void end_of_call(struct routine **in_call);
 void at_call(const char *call);
 void at_thing(const char *call, enum kind kind, const void *thing, size_t size, unsigned how);
 void at_live(const char *call, const void *thing, size_t size);
@@ -330,19 +359,26 @@ bool next_failure(void);
 void note_ending(struct routine *me, bool early);
 void write_failures(char *text, size_t room);
 bool read_failures(const char *text);
-void track_made(const char *call, const void *lock);
+void track_made(const char *call, const void *thing, const void *pc);
+void track_owner(const char *call, const void *owner);
+const char *place_made(const struct thing *thing);
+const struct routine *append_held(char *text, const void *count);
 void check_none_made(const char *call, const void *from, size_t size);
 void check_none_left(void);
 void track_wake(const char *call, const char *place, const void *cv, bool waited);
 const struct thing *lost_wakeup_at(const void *cv);
+void note_enter(const struct thread *self);
+void note_exit(const struct thread *self);
 bool is_free(const struct routine *me);
 bool can_take(const struct routine *me);
 bool was_woken(const struct routine *me);
-bool has_ended_section(const struct routine *me);
+unsigned section_waited_for(const struct routine *me);
+bool have_ended_sections(const struct routine *me);
 bool was_released(const struct routine *me);
 bool has_ended_handler(const struct routine *me);
 bool has_ended(const struct routine *me);
 bool can_begin(const struct routine *me);
+bool can_go_on(const struct routine *me);
 bool is_xcall_complete(const struct routine *me);
 extern struct routine *xcaller;
 uint64_t *releases_of(const void *target);
@@ -386,7 +422,7 @@ _Noreturn void refuse(const char *format, ...) __attribute__((format(printf, 1, 
 void write_schedule(char *text, size_t room);
 const char *short_place(const char *place);
 const char *place_of_step(const struct step *step);
-void show(FILE *to, const struct bench_found *found);
-bool draw(const char *name, const struct bench_found *found);
+void show(FILE *to, const struct explorer_found *found);
+bool draw(const char *name, const struct explorer_found *found);
 
 #endif

@@ -47,8 +47,8 @@ bool lock_tryacquire(uintptr_t *word, struct thread *me)
 	touch(ON_LOCK, word, 0, WRITES);
 	if (*word != 0)
 		return false;
+	touch(ON_LOCK, word, 0, ACQUIRES);
 	*word = (uintptr_t)me;
-	acquire_clock(ON_LOCK, word, 0);
 	return true;
 }
 
@@ -61,14 +61,16 @@ bool is_free(const struct routine *me)
 /* Whoever waits for its own CPU doesn't have it, although it has begun to. */
 void lock_acquire(uintptr_t *word, struct thread *me, report_fn *reporter)
 {
-	bool off = run.current->off;
+	bool off = run.current->off, waits = run.current->visits || *word != 0;
 	(void)reporter;
-	if (run.current->visits || *word != 0) {
+	if (waits) {
+		if (!run.current->visits)
+			touch(ON_LOCK, word, 0, 0);
 		run.current->off |= me->cpu != NULL && word == &me->cpu->hold;
 		wait_here(is_free, word);
 		run.current->off = off;
 	}
-	touch(ON_LOCK, word, 0, WRITES | ACQUIRES);
+	touch(ON_LOCK, word, 0, WRITES | ACQUIRES | (waits ? WAITED : 0));
 	*word = (uintptr_t)me;
 }
 
@@ -113,15 +115,19 @@ static bool wait_for_wake(const void *of, int64_t deadline)
 {
 	struct routine *me = run.current;
 	touch(ON_CV, of, 0, WRITES);
+	/* Whoever waits for an rwlock has looked at it, and waits in its queue. */
+	touch(ON_LOCK, of, 0, 0);
 	me->queue = of;
 	me->woken = false;
 	me->arrived = ++run.arrivals;
 	set_deadline(me, deadline);
 	wait_here(was_woken, of);
-	if (me->relock != NULL)
+	if (me->relock != NULL) {
 		check_live(me->call, me->relock, sizeof(*me->relock));
+		touch(ON_LOCK, me->relock, 0, WAITED);
+	}
 	/* The wake-up alone has enabled it, unless its time is over or it might end early. */
-	touch(ON_WAKE, me, 0, is_late(me) || me->may_end != IN_TIME ? 0 : ACQUIRES);
+	touch(ON_WAKE, me, 0, is_late(me) || me->may_end != IN_TIME ? 0 : ACQUIRES | WAITED);
 	note_ending(me, !me->woken && !is_late(me));
 	if (me->woken)
 		acquire_clock(ON_WAKE, me, 0);
@@ -167,120 +173,25 @@ bool sleepq_has_waiter(struct sleepq *sleepq, const void *of)
 	return first_for(of) != NULL;
 }
 
-/* ---- Pauses: what the registry has named must change. ---- */
+/* ---- Pauses: a handler must end. ---- */
 
 struct pauses begin_pauses(void)
 {
 	return (struct pauses){0, {0, 0}};
 }
 
-bool pauses_are_over(struct pauses *pauses)
-{
-	(void)pauses;
-	return false;
-}
-
-bool has_ended_section(const struct routine *me)
-{
-	return run.ends[(uintptr_t)me->of] != me->noted;
-}
-
-uint64_t *releases_of(const void *target)
-{
-	return &((struct thing *)row_for(THINGS, (uintptr_t)target))->releases;
-}
-
-bool was_released(const struct routine *me)
-{
-	return *releases_of(me->target) != me->noted;
-}
-
 bool has_ended_handler(const struct routine *me)
 {
-	(void)me;
 	return run.handlers != me->noted;
 }
 
-bool pause_longer(struct pauses *pauses, const struct registry_stage *met)
+bool pause_longer(struct pauses *pauses)
 {
-	struct routine *me = run.current;
 	(void)pauses;
-	if (met != NULL && met->stage == REGISTRY_GRACE) {
-		me->noted = run.ends[met->what];
-		wait_here(has_ended_section, (const void *)(uintptr_t)met->what);
-		return false;
-	}
-	me->noted = met == NULL ? run.handlers : *releases_of(me->target);
-	wait_here(met == NULL ? has_ended_handler : was_released, met == NULL ? NULL : (const void *)(uintptr_t)met->what);
-	if (met == NULL)
-		touch(ON_PENDING, NULL, ANY, 0);
+	run.current->noted = run.handlers;
+	wait_here(has_ended_handler, NULL);
+	touch(ON_PENDING, NULL, ANY, 0);
 	return false;
-}
-
-/* ---- The registry's calls that others see. ---- */
-
-uint32_t bench_enter(struct registry_cpu *cpu)
-{
-	touch(ON_SECTION, NULL, kupaldiz_self->cpu->info.ci_index, WRITES);
-	run.inside[kupaldiz_self->cpu->info.ci_index] = true;
-	return registry_enter(cpu);
-}
-
-uint32_t bench_section_exit(struct registry_cpu *cpu)
-{
-	unsigned number = kupaldiz_self == NULL ? 0 : kupaldiz_self->cpu->info.ci_index;
-	uint32_t answer = registry_exit(cpu);
-	bool inside = kupaldiz_self == NULL;
-	if (inside || answer != REGISTRY_DONE || registry_inside(cpu, &inside) != REGISTRY_DONE || inside)
-		return answer;
-	run.inside[number] = false;
-	run.ends[number]++;
-	touch(ON_SECTION, NULL, number, WRITES | RELEASES);
-	touch(ON_END, (const void *)(uintptr_t)run.ends[number], number, ORDERS | WRITES);
-	release_clock(ON_END, (const void *)(uintptr_t)run.ends[number], number);
-	return answer;
-}
-
-/* What the sections that have ended on all CPUs have left comes before a wait that begins now. */
-static void acquire_sections(void)
-{
-	for (unsigned cpu = 0; cpu < KUPALDIZ_CPUS; cpu++)
-		acquire_clock(ON_SECTION, NULL, cpu);
-}
-
-uint32_t bench_destroy(struct registry_keeper *keeper, struct registry_cpu *cpu, uint64_t number, struct registry_stage *met)
-{
-	const void *target = run.current->target;
-	touch(ON_SECTION, NULL, ANY, 0);
-	touch(ON_REFERENCES, target, ANY, 0);
-	uint32_t answer = registry_destroy(keeper, cpu, number, met);
-	acquire_sections();
-	if (answer == REGISTRY_DONE)
-		acquire_clock(ON_REFERENCES, target, 0);
-	return answer;
-}
-
-uint32_t bench_perform_begin(struct registry_keeper *keeper, struct registry_cpu *cpu, struct registry_wait *wait)
-{
-	touch(ON_SECTION, NULL, ANY, 0);
-	acquire_sections();
-	for (unsigned number = 0; number < KUPALDIZ_CPUS; number++)
-		run.current->sections[number] = run.inside[number] ? run.ends[number] + 1 : 0;
-	return registry_perform_begin(keeper, cpu, wait);
-}
-
-uint32_t bench_perform_turn(struct registry_keeper *keeper, struct registry_cpu *cpu, struct registry_wait *wait, uint64_t *waited)
-{
-	uint32_t answer = registry_perform_turn(keeper, cpu, wait, waited);
-	/* Each section that was open as the wait began has ended before this, whichever it was that the last turn met. */
-	for (unsigned number = 0; number < KUPALDIZ_CPUS && answer == REGISTRY_DONE; number++) {
-		uint64_t section = run.current->sections[number];
-		if (section == 0 || run.ends[number] < section)
-			continue;
-		touch(ON_END, (const void *)(uintptr_t)section, number, ORDERS);
-		acquire_clock(ON_END, (const void *)(uintptr_t)section, number);
-	}
-	return answer;
 }
 
 /* ---- The C library's threads and time. ---- */
@@ -298,7 +209,7 @@ static void run_start(void *arg)
 	run.current->start(arg);
 }
 
-int bench_create(pthread_t *id, void *(*body)(void *), void *arg, const char *file)
+int explorer_create(pthread_t *id, void *(*body)(void *), void *arg, const char *file)
 {
 	bool callout = strstr(file, "callout") != NULL, works = strstr(file, "workqueue") != NULL;
 	/* It may be bound as it begins. */
@@ -319,7 +230,7 @@ bool has_ended(const struct routine *me)
 	return ((const struct routine *)me->of)->ended;
 }
 
-int bench_join(pthread_t id)
+int explorer_join(pthread_t id)
 {
 	struct routine *joined = &run.routines[id];
 	wait_here(has_ended, joined);
@@ -327,14 +238,14 @@ int bench_join(pthread_t id)
 	return 0;
 }
 
-void bench_exit(void)
+void explorer_exit(void)
 {
 	end_self();
 	end_routine();
 }
 
 /* No step ends with one of the layer's own mutexes held, so nobody waits for one. */
-void bench_mutex_lock(const void *watched)
+void explorer_mutex_lock(const void *watched)
 {
 	if (watched == NULL)
 		return;
@@ -342,17 +253,17 @@ void bench_mutex_lock(const void *watched)
 	acquire_clock(ON_LOCK, watched, 0);
 }
 
-void bench_mutex_unlock(const void *watched)
+void explorer_mutex_unlock(const void *watched)
 {
 	if (watched != NULL)
 		release_clock(ON_LOCK, watched, 0);
 }
 
-int bench_cond_wait(const void *cond, const struct timespec *deadline, const void *watched)
+int explorer_cond_wait(const void *cond, const struct timespec *deadline, const void *watched)
 {
-	bench_mutex_unlock(watched);
+	explorer_mutex_unlock(watched);
 	bool woken = wait_for_wake(cond, time_of(deadline));
-	bench_mutex_lock(watched);
+	explorer_mutex_lock(watched);
 	return woken ? 0 : ETIMEDOUT;
 }
 
@@ -363,13 +274,13 @@ void sleep_until(int64_t time)
 	set_deadline(run.current, NEVER);
 }
 
-void bench_yield(void)
+void explorer_yield(void)
 {
 	wait_here(NULL, NULL);
 }
 
 /* No signal ends it. */
-int bench_sleep(const struct timespec *time)
+int explorer_sleep(const struct timespec *time)
 {
 	sleep_until(run.time + (int64_t)time->tv_sec * 1000000000 + time->tv_nsec);
 	return 0;
@@ -377,20 +288,20 @@ int bench_sleep(const struct timespec *time)
 
 /* ---- Its memory, and the line before it ends. ---- */
 
-static char line[BENCH_LINE];
+static char line[EXPLORER_LINE];
 
-void *bench_calloc(size_t count, size_t size)
+void *explorer_calloc(size_t count, size_t size)
 {
-	return memset(bench_allocate(count * size, 16, kupaldiz_self != NULL && !run.own_memory), 0, count * size);
+	return memset(explorer_allocate(count * size, 16, kupaldiz_self != NULL && !run.own_memory), 0, count * size);
 }
 
-ssize_t bench_write(const void *text, size_t length)
+ssize_t explorer_write(const void *text, size_t length)
 {
 	snprintf(line, sizeof(line), "%.*s", (int)length - 1, (const char *)text);
 	return (ssize_t)length;
 }
 
-void bench_abort(void)
+void explorer_abort(void)
 {
 	fail("%s", line);
 }

@@ -40,16 +40,29 @@ static struct pool *pool_of(pool_cache_t cache)
 	return (struct pool *)(void *)cache;
 }
 
-WRAPPED(void *, pool_get, (struct pool *pool, int flags), (pool, flags), LIVE(pool))
+WRAPPED(void *, pool_get, (struct pool *pool, int flags), (pool, flags), at_pool(__func__, pool, 0))
 WRAPPED(void *, pool_cache_get, (pool_cache_t cache, int flags), (cache, flags),
     at_pool(__func__, pool_of(cache), WRITES); acquire_clock(ON_MEMORY, &pool_of(cache)->pr_out, 0))
 WRAPPED(void, pool_destroy, (struct pool *pool), (pool), at_pool(__func__, pool, WRITES))
 WRAPPED(void, pool_cache_destroy, (pool_cache_t cache), (cache), at_pool(__func__, pool_of(cache), 0))
 WRAPPED(void, pool_put, (struct pool *pool, void *object), (pool, object),
     at_block(__func__, object, pool->pr_size); touch_memory(&pool->pr_out, sizeof(pool->pr_out), 0))
-WRAPPED(void, pool_cache_put, (pool_cache_t cache, void *object), (cache, object),
-    at_block(__func__, object, pool_of(cache)->pr_size); touch_memory(&pool_of(cache)->pr_out, sizeof(size_t), WRITES);
-    release_clock(ON_MEMORY, &pool_of(cache)->pr_out, 0))
+
+/* With PR_PSERIALIZE readers may still look at the object, until the end of the cache. */
+static void at_cache_put(const char *call, const struct pool *pool, const void *object)
+{
+	if ((pool->pr_flags & PR_PSERIALIZE) == 0) {
+		at_block(call, object, pool->pr_size);
+	} else {
+		at_call(call);
+		check_live(call, object, 1);
+		check_none_made(call, object, pool->pr_size);
+	}
+	touch_memory(&pool->pr_out, sizeof(pool->pr_out), WRITES);
+	release_clock(ON_MEMORY, &pool->pr_out, 0);
+}
+
+WRAPPED(void, pool_cache_put, (pool_cache_t cache, void *object), (cache, object), at_cache_put(__func__, pool_of(cache), object))
 
 WRAPPED(void *, percpu_getref, (percpu_t *percpu), (percpu), at_cpu(__func__); check_live(__func__, percpu, 1))
 WRAPPED(void, percpu_putref, (percpu_t *percpu), (percpu), at_thing(__func__, ON_TARGET, percpu, 1, 0))
@@ -112,8 +125,9 @@ LAYER(void, softint_disestablish, (void *cookie));
 
 void softint_disestablish(void *cookie)
 {
+	IN_CALL;
 	at_call(__func__);
-	touch(ON_PENDING, NULL, ANY, 0);
+	touch(ON_PENDING, NULL, ANY, WRITES);
 	layer_softint_disestablish(cookie);
 	for (unsigned cpu = 0; cpu < KUPALDIZ_CPUS; cpu++)
 		acquire_clock(ON_PENDING, NULL, cpu);
@@ -128,7 +142,7 @@ AROUND(void, percpu_foreach_xcall, (percpu_t *percpu, unsigned flags, percpu_cal
 LAYER(void, delay, (unsigned microseconds));
 
 /* The layer's own soft interrupt for callouts is never ended. */
-AROUND(void, callout_init, (callout_t *callout, unsigned flags), (callout, flags), track_made(__func__, callout); run.own_memory = true,
+AROUND(void, callout_init, (callout_t *callout, unsigned flags), (callout, flags), track_made(__func__, callout, __builtin_return_address(0)); run.own_memory = true,
     run.own_memory = false)
 WRAPPED(void, callout_destroy, (callout_t *callout), (callout), LIVE(callout); track_ended(callout))
 WRAPPED(void, callout_setfunc, (callout_t *callout, void (*body)(void *), void *arg), (callout, body, arg),
@@ -151,6 +165,7 @@ WRAPPED(int, kpause, (const char *name, bool interruptible, int ticks, kmutex_t 
 
 void delay(unsigned microseconds)
 {
+	IN_CALL;
 	at_call(__func__);
 	sleep_until(run.time + (int64_t)microseconds * 1000);
 }
@@ -166,7 +181,7 @@ WRAPPED(int, copyoutstr, (const void *kernel, void *user, size_t length, size_t 
 
 /* Memory with a work isn't given back before the work's function is called. */
 AROUND(void, workqueue_enqueue, (struct workqueue *queue, struct work *work, struct cpu_info *cpu), (queue, work, cpu),
-    at_live(__func__, queue, 1); check_live(__func__, work, sizeof(*work)), track_made(__func__, work))
+    at_live(__func__, queue, 1); check_live(__func__, work, sizeof(*work)), track_made(__func__, work, __builtin_return_address(0)))
 
 WRAPPED(void, workqueue_wait, (struct workqueue *queue, struct work *work), (queue, work),
     at_live(__func__, queue, 1))
@@ -191,6 +206,8 @@ static struct xcall *first, **last = &first;
 static uint64_t asked, made;
 struct routine *xcaller;	/* its thread */
 
+enum { ASKED = 1, MADE };	/* what is touched of a call, by its number */
+
 static bool has_xcall(const struct routine *me)
 {
 	(void)me;
@@ -208,7 +225,7 @@ static void make_calls(void *arg)
 	(void)named_thread("xcall", "xcall");
 	for (;;) {
 		point("xcall", NULL, has_xcall, NULL);
-		touch(ON_XCALL, NULL, 0, WRITES | ACQUIRES);
+		touch(ON_XCALL, (const void *)(uintptr_t)(made + 1), ASKED, ACQUIRES | WAITED);
 		const struct xcall *xcall = first;
 		first = xcall->next;
 		if (first == NULL)
@@ -223,25 +240,28 @@ static void make_calls(void *arg)
 		}
 		run.current->visits = false;
 		made++;
-		touch(ON_XCALL, NULL, 0, WRITES | RELEASES);
+		touch(ON_XCALL, (const void *)(uintptr_t)made, MADE, WRITES | RELEASES);
 	}
 }
 
 static uint64_t enqueue_xcall(const struct xcall *asked_for)
 {
-	struct xcall *xcall = bench_allocate(sizeof(*xcall), 16, false);
+	struct xcall *xcall = explorer_allocate(sizeof(*xcall), 16, false);
 	if (xcaller == NULL)
 		xcaller = make_routine("xcall", make_calls, NULL, true);
 	start_routines();
 	*xcall = *asked_for;
 	*last = xcall;
 	last = &xcall->next;
-	touch(ON_XCALL, NULL, 0, WRITES | RELEASES);
-	return ++asked;
+	/* Who asks later is behind; the thread waits for this call alone. */
+	touch(ON_XCALL, NULL, 0, WRITES);
+	touch(ON_XCALL, (const void *)(uintptr_t)++asked, ASKED, WRITES | RELEASES);
+	return asked;
 }
 
 uint64_t xc_broadcast(unsigned flags, xcfunc_t body, void *arg_a, void *arg_b)
 {
+	IN_CALL;
 	at_call(__func__);
 	const struct thread *me = begin_call(__func__);
 	require_sleepable(me);
@@ -250,6 +270,7 @@ uint64_t xc_broadcast(unsigned flags, xcfunc_t body, void *arg_a, void *arg_b)
 
 uint64_t xc_unicast(unsigned flags, xcfunc_t body, void *arg_a, void *arg_b, struct cpu_info *cpu)
 {
+	IN_CALL;
 	at_call(__func__);
 	require_sleepable(begin_plain(__func__));
 	return enqueue_xcall(&(struct xcall){.flags = flags, .body = body, .arg_a = arg_a, .arg_b = arg_b, .cpu = cpu});
@@ -257,13 +278,18 @@ uint64_t xc_unicast(unsigned flags, xcfunc_t body, void *arg_a, void *arg_b, str
 
 void xc_wait(uint64_t ticket)
 {
+	IN_CALL;
 	struct routine *me = here(__func__);
-	const struct thread *self = begin_plain(__func__);
+	struct thread *self = begin_plain(__func__);
 	require_sleepable(self);
 	stop_if(self, ticket == 0 || ticket > asked, "no such call");
+	if (self->kernel_locks > 0)
+		at_call(__func__);
+	struct sleep sleep = begin_sleep(self);
 	me->noted = ticket;
 	point(__func__, NULL, is_xcall_complete, NULL);
-	touch(ON_XCALL, NULL, 0, ACQUIRES);
+	touch(ON_XCALL, (const void *)(uintptr_t)ticket, MADE, ACQUIRES | WAITED);
+	end_sleep(self, sleep);
 }
 
 /* It goes to each CPU in turn: each is a point of its own. */

@@ -189,7 +189,7 @@ static void draw_legend(FILE *to)
 }
 
 /* The picture of the schedule that was run last, with its fault. Whether it could be written. */
-bool draw(const char *name, const struct bench_found *found)
+bool draw(const char *name, const struct explorer_found *found)
 {
 	FILE *to = fopen(name, "w");
 	double list = TOP + row_of(THREADS) * ROW + 20, high = list + (search->length + 2 + (unsigned)strlen(found->line) / 100) * LINE_HIGH;

@@ -1,6 +1,6 @@
 /* routine.c - threads as coroutines of one thread, each with a stack of its own */
 #if !defined(__x86_64__) || !defined(__LP64__)
-#error "the bench is for x86-64 alone: it switches stacks by that processor's instructions"
+#error "the explorer is for x86-64 alone: it switches stacks by that processor's instructions"
 #endif
 
 #include <sys/mman.h>
@@ -37,7 +37,7 @@ void map_stacks(void)
 	uint64_t top = 0;
 	__asm__ volatile(".byte 0xf3, 0x48, 0x0f, 0x1e, 0xc8" : "+a"(top));	/* rdsspq %rax */
 	if (top != 0)
-		refuse("the program runs with a shadow stack, which the bench can't switch: link it with -z noshstk, or run it with "
+		refuse("the program runs with a shadow stack, which the explorer can't switch: link it with -z noshstk, or run it with "
 		       "GLIBC_TUNABLES=glibc.cpu.hwcaps=-SHSTK");
 	/* A stack for each, with as much room below that nothing may touch. They stay. */
 	stacks = map_pages((size_t)THREADS * 2 * STACK, MAP_PRIVATE);
@@ -53,12 +53,12 @@ bool is_on_stack(const struct routine *routine, const volatile void *at)
 }
 
 /* Leaves one stack, with what a call keeps: six registers, MXCSR and the control word of the x87. Goes on where another one was left. */
-void bench_switch(void **left, void *to);
+void explorer_switch(void **left, void *to);
 __asm__(".text\n"
-	".globl bench_switch\n"
-	".hidden bench_switch\n"
-	".type bench_switch, @function\n"
-	"bench_switch:\n"
+	".globl explorer_switch\n"
+	".hidden explorer_switch\n"
+	".type explorer_switch, @function\n"
+	"explorer_switch:\n"
 	"	pushq %rbp\n"
 	"	pushq %rbx\n"
 	"	pushq %r12\n"
@@ -80,7 +80,7 @@ __asm__(".text\n"
 	"	popq %rbx\n"
 	"	popq %rbp\n"
 	"	ret\n"
-	".size bench_switch, . - bench_switch\n");
+	".size explorer_switch, . - explorer_switch\n");
 
 enum { KEPT = 6 };	/* registers */
 
@@ -117,7 +117,7 @@ void switch_to(struct routine *to)
 		return;
 	exchange(from, to);
 	leave_stack(from->ended ? NULL : &from->fake_stack, stack_of(to->number), STACK);
-	bench_switch(&from->stack, to->stack);
+	explorer_switch(&from->stack, to->stack);
 	come_to_stack(from->fake_stack, NULL, NULL);
 }
 
@@ -128,7 +128,7 @@ void leave_run(enum end end)
 	exchange(NULL, NULL);
 	leave_stack(NULL, home_bottom, home_size);
 	void *left;
-	bench_switch(&left, home);
+	explorer_switch(&left, home);
 	_exit(2);
 }
 
@@ -138,7 +138,7 @@ static void begin_routine(void)
 	struct routine *me = run.current;
 	come_to_stack(NULL, me->number == 0 ? &home_bottom : NULL, me->number == 0 ? &home_size : NULL);
 	if (me->name != NULL && !me->daemon)
-		kupaldiz_self = named_thread(me->number == 0 ? "bench_explore" : "bench_thread", me->name);
+		kupaldiz_self = named_thread(me->number == 0 ? "explorer_run" : "explorer_thread", me->name);
 	me->body(me->arg);
 	if (kupaldiz_self != NULL)
 		end_self();
@@ -207,6 +207,6 @@ void run_main(void (*body)(void *))
 	first->begun = true;
 	exchange(NULL, first);
 	leave_stack(&home_fake, stack_of(0), STACK);
-	bench_switch(&home, first->stack);
+	explorer_switch(&home, first->stack);
 	come_to_stack(home_fake, NULL, NULL);
 }

@@ -141,18 +141,39 @@ static unsigned choose_random(uint32_t enabled)
 
 static const struct set ticking = {.count = 2, .of = {{.size = 1, .kind = ON_TIME, .how = WRITES}, {.size = 1, .kind = ON_DEADLINE, .cpu = ANY}}};
 
-/* The run ends after its first `upto` steps, well or cut short: what is disabled then of the clock and the soft interrupts may race with one of them. A thread
- * that waits for a lock, a wake-up or its CPU needs nothing here: it goes on in each run that isn't cut, and its step has its races there. */
+static struct access of_lock(const void *word, unsigned how)
+{
+	return (struct access){.address = (uintptr_t)word, .size = 1, .kind = ON_LOCK, .how = (uint8_t)how};
+}
+
+/* What a disabled thread's next step would touch, as far as another thread's step may have disabled it: a lock, its CPU, the queue of a soft interrupt. What
+ * else a guard looks at stays true once it is: a wake-up, the time, an end. */
+static struct set touched_by_guard(const struct routine *routine)
+{
+	const struct thread *self = routine->self;
+	const void *lock = routine->guard == is_free || routine->guard == can_take ? routine->of : routine->guard == was_woken ? routine->relock : NULL;
+	bool begins = routine->guard == can_begin;
+	struct set set = {0};
+	if (lock != NULL)
+		add(&set, of_lock(lock, WRITES | ACQUIRES | WAITED));
+	if (begins)
+		add(&set, (struct access){.size = 1, .kind = ON_PENDING, .cpu = (uint16_t)self->cpu->info.ci_index, .how = WRITES});
+	if (begins || routine->guard == can_go_on)
+		add(&set, of_lock(&self->cpu->hold, WRITES | ACQUIRES));
+	else if (self != NULL && self->cpu != NULL && !routine->off && (self->holds > 0 || routine->guard == can_take))
+		add(&set, of_lock(&self->cpu->hold, WAITED));
+	return set;
+}
+
+/* The run ends after its first `upto` steps, well or cut short: whoever is disabled then may race with one of them. */
 static void find_races_of_all_disabled(unsigned upto)
 {
 	if (!clock_may_jump() && run.ticks < options.ticks)
 		find_races_of_disabled(CLOCK, &ticking, upto);
 	for (const struct routine *routine = run.routines; routine < &run.routines[run.count]; routine++) {
-		if (routine->guard != can_begin || is_enabled(routine))
-			continue;
-		uint16_t cpu = (uint16_t)routine->self->cpu->info.ci_index;
-		const struct set queue = {.count = 1, .of = {{.size = 1, .kind = ON_PENDING, .cpu = cpu, .how = WRITES}}};
-		find_races_of_disabled(routine->number, &queue, upto);
+		const struct set set = touched_by_guard(routine);
+		if (set.count > 0 && !routine->ended && !is_enabled(routine))
+			find_races_of_disabled(routine->number, &set, upto);
 	}
 }
 
@@ -162,6 +183,17 @@ void find_races_at_end(void)
 		return;
 	find_races(run.step - 1, run.step - 1);
 	find_races_of_all_disabled(run.finish + 1);
+}
+
+/* A fault ends each thread, and so its step changes places with none. Where nobody can go on, no step is at fault. */
+void find_races_of_fault(void)
+{
+	if (search->mode != REDUCED)
+		return;
+	if (run.step > search->fresh && !search->stuck)
+		search->steps[run.step - 1].set.full = true;
+	find_races(run.step - 1, run.step - 1);
+	find_races_of_all_disabled(run.step);
 }
 
 /* What is tried at a new step, beginning with the thread that runs already. */
@@ -274,7 +306,7 @@ static void choose(void)
 struct routine *here(const char *call)
 {
 	struct routine *me = run.current;
-	refuse_if(me == NULL, "%s outside of bench_explore", call);
+	refuse_if(me == NULL, "%s outside of explorer_run", call);
 	struct thread *self = kupaldiz_self;
 	me->self = self;
 	if (me->name == NULL && self != NULL)
@@ -309,7 +341,7 @@ void point(const char *call, const char *place, guard_fn *guard, const void *of)
 	choose();
 	/* A soft interrupt that takes its CPU comes before the step of a thread that has it, or after. */
 	if (me->self != NULL && me->self->holds > 0 && !me->off)
-		touch(ON_LOCK, &me->self->cpu->hold, 0, 0);
+		touch(ON_LOCK, &me->self->cpu->hold, 0, WAITED);
 }
 
 /* A wait inside a call. */
@@ -318,4 +350,7 @@ void wait_here(guard_fn *guard, const void *of)
 	struct routine *me = run.current;
 	point(me->call != NULL ? me->call : "wait", me->place, guard, of);
 	me->guard = NULL;
+	/* The call changes what it works on once more as it ends. */
+	if (me->target != NULL)
+		touch(ON_TARGET, me->target, 0, 0);
 }

@@ -29,19 +29,33 @@ const char *place_of_step(const struct step *step)
 	return step->place == NULL && step->pc == NULL ? "" : short_place(place_of(step->place, step->pc));
 }
 
+/* How many steps of a thread's are the same call at the same place, from this one on. */
+static unsigned equal_steps(unsigned at)
+{
+	const struct step *first = &search->steps[at];
+	unsigned count = 1;
+	for (const struct step *step = first + 1; at + count < search->length; step++, count++)
+		if (step->chosen != first->chosen || step->cpu != first->cpu || step->call != first->call || step->place != first->place || step->pc != first->pc)
+			break;
+	return count;
+}
+
 static void show_steps(FILE *to)
 {
-	for (unsigned at = 0; at < search->length; at++) {
+	for (unsigned at = 0, count; at < search->length; at += count) {
 		const struct step *step = &search->steps[at];
 		bool changes = at == 0 || search->steps[at - 1].chosen != step->chosen;
-		char cpu[8] = "";
+		char cpu[8] = "", times[24] = "";
+		count = equal_steps(at);
 		if (step->cpu != NOBODY)
 			snprintf(cpu, sizeof(cpu), "CPU %u", step->cpu);
-		fprintf(to, "  %4u  %-16s %-5s  %-22s %s\n", at + 1, changes ? search->names[step->chosen] : "", cpu, step->call, place_of_step(step));
+		if (count > 1)
+			snprintf(times, sizeof(times), ", %u times", count);
+		fprintf(to, "  %4u  %-16s %-5s  %-22s %s%s\n", at + 1, changes ? search->names[step->chosen] : "", cpu, step->call, place_of_step(step), times);
 	}
 }
 
-static void show_left_out(FILE *to, const struct bench_found *found)
+static void show_left_out(FILE *to, const struct explorer_found *found)
 {
 	char which[48] = "that weren't reached";
 	if (found->bound >= 0)
@@ -51,7 +65,7 @@ static void show_left_out(FILE *to, const struct bench_found *found)
 }
 
 /* The search came to its end, within two bounds of each run. */
-static void show_withheld(FILE *to, const struct bench_found *found)
+static void show_withheld(FILE *to, const struct explorer_found *found)
 {
 	if (found->hurried > 0)
 		fprintf(to, "%s: left out: schedules in which time goes on early more than %u times\n", options.name, options.ticks);
@@ -59,7 +73,7 @@ static void show_withheld(FILE *to, const struct bench_found *found)
 		fprintf(to, "%s: left out: schedules in which a thread goes on for more than 200 points while another can\n", options.name);
 }
 
-static void show_counts(FILE *to, const struct bench_found *found)
+static void show_counts(FILE *to, const struct explorer_found *found)
 {
 	fprintf(to, "%s: %llu schedules, %llu cut short, %llu states, %llu points, %llu switches\n", options.name, (unsigned long long)found->schedules,
 	    (unsigned long long)found->cut, (unsigned long long)found->states, (unsigned long long)found->points, (unsigned long long)found->switches);
@@ -83,9 +97,9 @@ static void show_unseen(FILE *to)
 		fprintf(to, "%s: compiled without -fsanitize=thread\n", unseen_count > MOST_UNSEEN ? ", .." : "");
 }
 
-static void show_outcomes(FILE *to, const struct bench_found *found)
+static void show_outcomes(FILE *to, const struct explorer_found *found)
 {
-	for (const struct bench_outcome *outcome = found->outcome; outcome < &found->outcome[found->outcomes]; outcome++) {
+	for (const struct explorer_outcome *outcome = found->outcome; outcome < &found->outcome[found->outcomes]; outcome++) {
 		if (outcome->text[0] != '\0')
 			fprintf(to, "%s: outcome %s: %llu\n", options.name, outcome->text, (unsigned long long)outcome->count);
 		else if (found->outcomes > 1)
@@ -95,7 +109,7 @@ static void show_outcomes(FILE *to, const struct bench_found *found)
 		fprintf(to, "%s: other outcomes: %llu\n", options.name, (unsigned long long)found->others);
 }
 
-void show(FILE *to, const struct bench_found *found)
+void show(FILE *to, const struct explorer_found *found)
 {
 	show_counts(to, found);
 	show_unseen(to);
@@ -107,6 +121,7 @@ void show(FILE *to, const struct bench_found *found)
 		fprintf(to, "%s: before that: %s\n", options.name, found->failed);
 	fprintf(to, "%s: found by run %llu; schedule %s, switches %u, preemptions %u\n", options.name, (unsigned long long)found->first,
 	    found->schedule, found->changes, found->preemptions);
+	fprintf(to, "%s: again: EXPLORER_REPLAY='%s:%s' %s\n", options.name, options.name, found->schedule, program_invocation_name);
 	show_steps(to);
 }
 

@@ -9,10 +9,16 @@
 
 static struct routine *softints[KUPALDIZ_CPUS][LEVELS];
 
+/* A read section is at IPL_SOFTSERIAL, as in the kernel. */
+static int level_of(const struct thread *owner)
+{
+	return !options.strict && owner->depth > 0 && owner->level < IPL_SOFTSERIAL ? IPL_SOFTSERIAL : owner->level;
+}
+
 static bool may_have(const struct cpu *cpu, int level)
 {
 	const struct thread *owner = lock_owner(&cpu->hold);
-	return owner == NULL || (!owner->softint && owner->level < level);
+	return owner == NULL || (!owner->softint && level_of(owner) < level);
 }
 
 /* Whether a soft interrupt of a higher level waits on a CPU, and no handler of that level waits for a lock. */
@@ -32,7 +38,7 @@ bool can_begin(const struct routine *me)
 }
 
 /* Whether the handler that had given the CPU back may have it again. */
-static bool can_go_on(const struct routine *me)
+bool can_go_on(const struct routine *me)
 {
 	return may_have(me->self->cpu, me->self->level);
 }
@@ -42,13 +48,12 @@ static void acquire_cpu(struct thread *me)
 	me->lender = lock_owner(&me->cpu->hold);
 	me->cpu->hold = (uintptr_t)me;
 	/* Whoever has the CPU needn't have given it. */
-	touch(ON_LOCK, &me->cpu->hold, 0, WRITES);
-	acquire_clock(ON_LOCK, &me->cpu->hold, 0);
+	touch(ON_LOCK, &me->cpu->hold, 0, WRITES | ACQUIRES);
 }
 
 static void release_cpu(struct thread *me)
 {
-	release_clock(ON_LOCK, &me->cpu->hold, 0);
+	touch(ON_LOCK, &me->cpu->hold, 0, WRITES | RELEASES);
 	me->cpu->hold = (uintptr_t)me->lender;
 	me->lender = NULL;
 }

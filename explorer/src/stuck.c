@@ -14,14 +14,6 @@ static const struct routine *routine_of(const struct thread *thread)
 	return NULL;
 }
 
-static const struct routine *holder_on(unsigned cpu, const void *target)
-{
-	const struct cpu *at = &cpus[cpu];
-	for (uint32_t place = 0; cpu < KUPALDIZ_CPUS && place < at->room; place++)
-		if (at->references[place].psref != NULL && (const void *)at->references[place].target == target)
-			return routine_of(at->references[place].thread);
-	return NULL;
-}
 
 static const struct routine *stuck_softint(void)
 {
@@ -36,21 +28,35 @@ __attribute__((format(printf, 2, 3))) static void append(char *text, const char 
 	size_t length = strlen(text);
 	va_list words;
 	va_start(words, format);
-	vsnprintf(text + length, BENCH_LINE - length, format, words);
+	vsnprintf(text + length, EXPLORER_LINE - length, format, words);
 	va_end(words);
+}
+
+/* A passive reference of a CPU's, and where it was acquired: whose it is. */
+static const struct routine *append_reference(char *text, unsigned cpu, const void *target)
+{
+	const struct cpu *at = &cpus[cpu];
+	append(text, "a reference of CPU %u", cpu);
+	for (uint32_t place = 0; cpu < KUPALDIZ_CPUS && place < at->room; place++) {
+		const struct reference *found = &at->references[place];
+		if (found->psref == NULL || (const void *)found->target != target)
+			continue;
+		append(text, ", acquired%s,", AT_PLACE(found->place));
+		return routine_of(found->thread);
+	}
+	return NULL;
 }
 
 /* What a thread waits for, and whose that is; NULL where no thread can be told. */
 static const struct routine *append_cause(char *text, const struct routine *me)
 {
-	unsigned cpu = (unsigned)(uintptr_t)me->of;
-	if (me->guard == has_ended_section) {
+	unsigned cpu = me->guard == have_ended_sections ? section_waited_for(me) : (unsigned)(uintptr_t)me->of;
+	if (me->guard == have_ended_sections) {
 		append(text, "CPU %u", cpu);
 		return routine_of(lock_owner(&cpus[cpu].hold));
 	}
 	if (me->guard == was_released) {
-		append(text, "a reference of CPU %u", cpu);
-		return holder_on(cpu, me->target);
+		return append_reference(text, cpu, me->target);
 	}
 	if (me->guard == is_xcall_complete) {
 		append(text, "the call");
@@ -63,6 +69,12 @@ static const struct routine *append_cause(char *text, const struct routine *me)
 	if (me->guard == has_ended_handler || (me->guard == was_woken && me->relock == NULL && stuck_softint() != NULL)) {
 		append(text, "the handler");
 		return stuck_softint();
+	}
+	if (me->guard == was_woken && !me->woken && me->target != NULL) {
+		size_t length = strlen(text);
+		const struct routine *holder = append_held(text, me->target);
+		if (text[length] != '\0')
+			return holder;
 	}
 	if (me->guard == was_woken && !me->woken && run.time < me->deadline) {
 		const struct thing *cv = lost_wakeup_at(me->queue);
@@ -79,7 +91,7 @@ static const struct routine *append_cause(char *text, const struct routine *me)
 /* Tells who waits, and who each waits for, up to one who waits for nobody, or for one that was told. */
 void report_stuck(void)
 {
-	char text[BENCH_LINE] = "";
+	char text[EXPLORER_LINE] = "";
 	uint32_t told = 0;
 	search->stuck = true;
 	/* The first thread that isn't the layer's and hasn't ended, the one of the setup last. */

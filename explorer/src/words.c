@@ -101,7 +101,7 @@ void kupaldiz_point(const volatile void *address, size_t size, unsigned how, con
 	run.current->announced = address == NULL ? run.current : address;
 }
 
-void bench_point(void)
+void explorer_point(void)
 {
-	at_call("bench_point");
+	at_call("explorer_point");
 }

@@ -107,7 +107,7 @@ BODY(meet)
 	callout_setfunc(&timers[0].callout, note_met, &timers[0]);
 	callout_schedule(&timers[0].callout, 1);
 	(void)kpause("callouts", false, 1, NULL);
-	bench_outcome("%u, ", atomic_load_relaxed(&met));
+	explorer_outcome("%u, ", atomic_load_relaxed(&met));
 }
 
 /* Those of one CPU whose times have come run in the order of their times, and of one time in that in which they were set. A CPU that is kept keeps no
@@ -238,6 +238,34 @@ BODY(set_meanwhile)
 	note_set();
 }
 
+/* A callout that sets itself again goes on, also on a CPU where another one was halted while it ran. */
+static unsigned periods;
+static bool halts;
+
+UNSEEN static void run_again(void *of)
+{
+	struct timer *timer = of;
+	if (++periods < 3)
+		callout_schedule(&timer->callout, 1);
+}
+
+HANDLER(stay, atomic_store_relaxed(&halts, true); delay(50000))
+UNSEEN static bool has_run_thrice(void) { return periods == 3; }
+
+BODY(halt_and_set_another)
+{
+	kupaldiz_bind(1);
+	callout_reset(&timers[0].callout, 1, stay, NULL);
+	while (!atomic_load_relaxed(&halts))
+		(void)kpause("callouts", false, 1, NULL);
+	callout_halt(&timers[0].callout, NULL);
+	callout_reset(&timers[1].callout, 1, run_again, &timers[1]);
+	kupaldiz_unbind();
+	for (unsigned tries = 0; tries < 20 && !has_run_thrice(); tries++)
+		delay(10000);
+	KASSERT(has_run_thrice());
+}
+
 static void make_things(void) { mutex_init(&lock, MUTEX_DEFAULT, IPL_SOFTCLOCK); }
 static void end_lock(void) { mutex_destroy(&lock); }
 
@@ -248,7 +276,7 @@ static void end_all(void)
 		callout_destroy(&timers[at].callout);
 	}
 	end_lock();
-	bench_outcome(late ? "late" : "exact");
+	explorer_outcome(late ? "late" : "exact");
 }
 
 static const struct find finds[] = {
@@ -259,6 +287,7 @@ static const struct find finds[] = {
 	{"a CPU that is kept", NULL, keep_cpu, .make = begin_timers, .finish = end_all, .outcome = "exact"},
 	{"inside a section", NULL, use_inside, .finish = end_lock},
 	{"a body that sets itself", NULL, halt_staying, .make = begin_timers, .finish = end_all},
+	{"a callout that sets itself again", NULL, halt_and_set_another, .make = begin_timers, .finish = end_all},
 	{"a body that ends its callout", NULL, set_to_end, .finish = end_lock},
 	{"set while a halt waits", NULL, halt_locked, set_meanwhile, .make = begin_timers, .finish = end_all},
 };

@@ -9,36 +9,45 @@ static unsigned steps;
 static void step_aloud(void *letter)
 {
 	for (unsigned at = 0; at < steps; at++) {
-		bench_point();
-		bench_outcome("%s", (const char *)letter);
+		explorer_point();
+		explorer_outcome("%s", (const char *)letter);
 	}
 }
 
-static void make_steppers(void) { bench_thread("one", step_aloud, "a"); bench_thread("two", step_aloud, "b"); }
-static void make_more_steppers(void) { make_steppers(); bench_thread("three", step_aloud, "c"); }
+static void step_quietly(void *arg)
+{
+	(void)arg;
+	for (unsigned at = 0; at < steps; at++)
+		explorer_point();
+}
+
+static void make_quiet_steppers(void) { explorer_thread("one", step_quietly, NULL); explorer_thread("two", step_quietly, NULL); }
+static void make_steppers(void) { explorer_thread("one", step_aloud, "a"); explorer_thread("two", step_aloud, "b"); }
+static void make_more_steppers(void) { make_steppers(); explorer_thread("three", step_aloud, "c"); }
 
 static unsigned word;
 
 HANDLER(change_word, atomic_inc_uint(&word))
-HANDLER(tell_change, if (atomic_load_relaxed(&word) != 0) bench_outcome("changed"))
-static void make_teller(void) { bench_thread("one", change_word, NULL); bench_thread("two", tell_change, NULL); }
+HANDLER(tell_change, if (atomic_load_relaxed(&word) != 0) explorer_outcome("changed"))
+static void make_teller(void) { explorer_thread("one", change_word, NULL); explorer_thread("two", tell_change, NULL); }
 
 /* Of 6 letters, two of each kind, there are 90 orders; of 12, six of each, 924. */
 static void test_orders(void)
 {
-	struct bench_found found;
-	struct bench_options options = {.name = "orders", .whole = true, .found = &found};
+	struct explorer_found found;
+	struct explorer_options options = {.name = "orders", .whole = true, .found = &found};
 	steps = 2;
-	EXPECT(bench_explore(make_more_steppers, &options) == 0 && found.exhausted && found.schedules == 90 && found.outcomes == 90);
+	EXPECT(explorer_run(make_more_steppers, &options) == 0 && found.exhausted && found.schedules == 90 && found.outcomes == 90);
 	options.whole = false;
-	EXPECT(bench_explore(make_more_steppers, &options) == 0 && found.exhausted && found.schedules == 1);
+	EXPECT(explorer_run(make_more_steppers, &options) == 0 && found.exhausted && found.schedules == 90 && found.outcomes == 90);
+	EXPECT(explorer_run(make_quiet_steppers, &options) == 0 && found.exhausted && found.schedules == 1);
 	steps = 6;
 	options.name = "steps";
 	options.whole = true;
-	EXPECT(bench_explore(make_steppers, &options) == 0 && found.schedules == 924);
-	EXPECT(found.outcomes == BENCH_OUTCOMES && found.others == found.schedules - BENCH_OUTCOMES);
+	EXPECT(explorer_run(make_steppers, &options) == 0 && found.schedules == 924);
+	EXPECT(found.outcomes == EXPLORER_OUTCOMES && found.others == found.schedules - EXPLORER_OUTCOMES);
 	options.name = "change";
-	EXPECT(bench_explore(make_teller, &options) == 0 && found.outcomes == 2);
+	EXPECT(explorer_run(make_teller, &options) == 0 && found.outcomes == 2);
 }
 
 /* ---- What is tried where the search ends early. ---- */
@@ -49,19 +58,19 @@ BODY(change)
 		atomic_inc_uint(&word);
 }
 
-static void make_changers(void) { bench_thread("one", change, NULL); bench_thread("two", change, NULL); }
+static void make_changers(void) { explorer_thread("one", change, NULL); explorer_thread("two", change, NULL); }
 
 /* With no preemption there are two orders; with one at most, each thread may be left at two points: six. If only one of those two is tried, not even
  * those with none all were. */
 static void test_bounds(void)
 {
-	struct bench_found found;
-	struct bench_options options = {.name = "bounds", .schedules = 1, .preemptions = 1, .random = 5, .found = &found};
-	EXPECT(bench_explore(make_changers, &options) == 0);
+	struct explorer_found found;
+	struct explorer_options options = {.name = "bounds", .schedules = 1, .preemptions = 1, .random = 5, .found = &found};
+	EXPECT(explorer_run(make_changers, &options) == 0);
 	EXPECT(!found.exhausted && found.bound == 1 && found.random == 5 && found.schedules == 1 + 2 + 6 + 5);
 	options.name = "cut bound";
 	options.bounded = 1;
-	EXPECT(bench_explore(make_changers, &options) == 0 && !found.exhausted && found.bound == -1);
+	EXPECT(explorer_run(make_changers, &options) == 0 && !found.exhausted && found.bound == -1);
 }
 
 /* Only one order has both last: random priorities come to it. */
@@ -69,19 +78,19 @@ BODY(win_last)
 {
 	unsigned own = arg == NULL ? 1 : 2;
 	atomic_store_relaxed(&word, own);
-	bench_point();
+	explorer_point();
 	KASSERT(own != 2 || atomic_load_relaxed(&word) != 1);
 }
 
-static void make_racers(void) { bench_thread("one", win_last, NULL); bench_thread("two", win_last, &word); }
+static void make_racers(void) { explorer_thread("one", win_last, NULL); explorer_thread("two", win_last, &word); }
 
 static void test_random(void)
 {
-	struct bench_found found, again;
-	struct bench_options options = {.quiet = true, .schedules = 1, .bounded = 1, .random = 2000, .seed = 3, .found = &found};
-	EXPECT(bench_explore(make_racers, &options) == 1 && found.random > 0);
+	struct explorer_found found, again;
+	struct explorer_options options = {.quiet = true, .schedules = 1, .bounded = 1, .random = 2000, .seed = 3, .found = &found};
+	EXPECT(explorer_run(make_racers, &options) == 1 && found.random > 0);
 	options.found = &again;
-	EXPECT(bench_explore(make_racers, &options) == 1 && found.random == again.random && strcmp(found.schedule, again.schedule) == 0);
+	EXPECT(explorer_run(make_racers, &options) == 1 && found.random == again.random && strcmp(found.schedule, again.schedule) == 0);
 }
 
 static bool is_set;
@@ -93,39 +102,39 @@ BODY(spin)
 }
 
 HANDLER(set, atomic_store_release(&is_set, true))
-static void make_spinner(void) { bench_thread("spins", spin, NULL); bench_thread("sets", set, NULL); }
-static void make_spinners(void) { bench_thread("spins, too", spin, NULL); make_spinner(); }
+static void make_spinner(void) { explorer_thread("spins", spin, NULL); explorer_thread("sets", set, NULL); }
+static void make_spinners(void) { explorer_thread("spins, too", spin, NULL); make_spinner(); }
 
 /* No run of theirs goes on for ever. */
 static void test_random_spins(void)
 {
-	struct bench_found found;
-	const struct bench_options options = {.quiet = true, .schedules = 1, .bounded = 1, .random = 300, .found = &found};
-	EXPECT(bench_explore(make_spinners, &options) == 0 && found.random == 300);
+	struct explorer_found found;
+	const struct explorer_options options = {.quiet = true, .schedules = 1, .bounded = 1, .random = 300, .found = &found};
+	EXPECT(explorer_run(make_spinners, &options) == 0 && found.random == 300);
 }
 
 /* What a thread would do after 200 points is left out, and the verdict says so. */
 static void test_throttled(void)
 {
-	struct bench_found found;
-	const struct bench_options options = {.name = "throttled", .found = &found};
-	EXPECT(bench_explore(make_spinner, &options) == 0);
+	struct explorer_found found;
+	const struct explorer_options options = {.name = "throttled", .found = &found};
+	EXPECT(explorer_run(make_spinner, &options) == 0);
 	EXPECT(found.throttled > 0 && !found.exhausted && found.random == 0);
 }
 
 /* Two pauses: with one early end in a run orders are left out, and the verdict says so. With two nothing is. */
 HANDLER(pause_twice, (void)kpause("pauses", false, 1, NULL); (void)kpause("pauses", false, 1, NULL))
 HANDLER(look_at_time, (void)getticks(); (void)getticks())
-static void make_pauses(void) { bench_thread("pauses", pause_twice, NULL); bench_thread("looks", look_at_time, NULL); }
+static void make_pauses(void) { explorer_thread("pauses", pause_twice, NULL); explorer_thread("looks", look_at_time, NULL); }
 
 static void test_hurried(void)
 {
-	struct bench_found found;
-	struct bench_options options = {.quiet = true, .found = &found};
-	EXPECT(bench_explore(make_pauses, &options) == 0);
+	struct explorer_found found;
+	struct explorer_options options = {.quiet = true, .found = &found};
+	EXPECT(explorer_run(make_pauses, &options) == 0);
 	EXPECT(found.hurried > 0 && found.complete && !found.exhausted && found.throttled == 0 && found.random == 0);
 	options.ticks = 2;
-	EXPECT(bench_explore(make_pauses, &options) == 0);
+	EXPECT(explorer_run(make_pauses, &options) == 0);
 	EXPECT(found.hurried == 0 && found.exhausted);
 }
 

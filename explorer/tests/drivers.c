@@ -12,7 +12,7 @@
 static void send_member(void *arg, unsigned index)
 {
 	unsigned *sum = arg;
-	bench_point();
+	explorer_point();
 	*sum += index;
 }
 
@@ -31,7 +31,7 @@ static void make_bridge(void)
 
 static void transmit_one(unsigned index)
 {
-	bench_point();
+	explorer_point();
 	KASSERT(index == 1);
 }
 
@@ -141,7 +141,7 @@ BODY(sum_up)
 	uint64_t sums[COUNTERS];
 	counters_sum(sums);
 	KASSERT(sums[COUNT_IN] == 0 || sums[COUNT_IN] == 1 || sums[COUNT_IN] == 3);
-	bench_outcome("%u", (unsigned)sums[COUNT_IN]);
+	explorer_outcome("%u", (unsigned)sums[COUNT_IN]);
 }
 
 static void end_counters(void)
@@ -169,9 +169,9 @@ static void begin_unload(void)
 {
 	int error = kupaldiz_ticker_modcmd(MODULE_CMD_INIT, NULL);
 	KASSERT((error == 0 || error == ENOMEM) && kupaldiz_ticker_modcmd(MODULE_CMD_STAT, NULL) == ENOTTY);
-	bench_thread("call", call_hook, NULL);
+	explorer_thread("call", call_hook, NULL);
 	if (error == 0)
-		bench_thread("unload", unload, NULL);
+		explorer_thread("unload", unload, NULL);
 }
 
 const struct driver_case driver_cases[] = {

@@ -1,4 +1,4 @@
-/* failures - calls that fail, waits that end early, works, hooks, soft interrupts and the parts of CPUs: what the bench finds, and that it tries each */
+/* failures - calls that fail, waits that end early, works, hooks, soft interrupts and the parts of CPUs: what the explorer finds, and that it tries each */
 #include "finds.h"
 
 static kmutex_t lock;
@@ -68,7 +68,7 @@ BODY(wait_as_told)
 	mutex_enter(&lock);
 	while (!ready && error == 0)
 		error = cv_wait_sig(&cv, &lock);
-	bench_outcome("%s", error == EINTR ? "EINTR" : error == 0 ? "ready" : "?");
+	explorer_outcome("%s", error == EINTR ? "EINTR" : error == 0 ? "ready" : "?");
 	mutex_exit(&lock);
 }
 
@@ -79,15 +79,15 @@ BODY(wait_for_time)
 	mutex_enter(&lock);
 	for (; !ready && error == 0; turns++)
 		error = cv_timedwait_sig(&cv, &lock, 1);
-	bench_outcome("%s after %u", error == EINTR ? "EINTR" : error == EWOULDBLOCK ? "late" : "ready", turns);
+	explorer_outcome("%s after %u", error == EINTR ? "EINTR" : error == EWOULDBLOCK ? "late" : "ready", turns);
 	mutex_exit(&lock);
 }
 
 BODY(pause_once)
 {
 	mutex_enter(&lock);
-	bench_outcome("%s ", kpause("pause", true, 1, &lock) == EINTR ? "EINTR" : "over");
-	bench_outcome("%s", ready ? "ready" : "not ready");
+	explorer_outcome("%s ", kpause("pause", true, 1, &lock) == EINTR ? "EINTR" : "over");
+	explorer_outcome("%s", ready ? "ready" : "not ready");
 	mutex_exit(&lock);
 }
 
@@ -134,7 +134,7 @@ static void enqueue(struct work *work)
 {
 	workqueue_enqueue(queue, work, NULL);
 	mutex_enter(&lock);
-	bench_outcome("%u", count);
+	explorer_outcome("%u", count);
 	mutex_exit(&lock);
 	workqueue_wait(queue, work);
 	mutex_enter(&lock);
@@ -149,7 +149,7 @@ static void end_works(void) { KASSERT(count == 2); end_queue(); }
 
 /* A work may be enqueued again by its own function, which may wait for it without a deadlock. A wait lasts until the last of these has returned. */
 WORK(do_again, workqueue_wait(queue, work); if (++count < 3) workqueue_enqueue(queue, work, NULL))
-HANDLER(wait_again, workqueue_enqueue(queue, works, NULL); workqueue_wait(queue, works); bench_outcome("%u", count))
+HANDLER(wait_again, workqueue_enqueue(queue, works, NULL); workqueue_wait(queue, works); explorer_outcome("%u", count))
 static void repeat_works(void) { make_queue_of(do_again, 0); }
 
 /* A queue for each CPU: its threads run works at the same time. */
@@ -161,7 +161,7 @@ static void enqueue_on(unsigned cpu)
 
 HANDLER(enqueue_on_0, enqueue_on(0))
 HANDLER(enqueue_on_1, enqueue_on(1))
-WORK(note_cpu, KASSERT(work == &works[cpu_number()]); bench_outcome("%u", cpu_number()); take_lock(work, arg))
+WORK(note_cpu, KASSERT(work == &works[cpu_number()]); explorer_outcome("%u", cpu_number()); take_lock(work, arg))
 static void work_on_each(void) { make_queue_of(note_cpu, WQ_MPSAFE | WQ_PERCPU); }
 
 MODULE_HOOK(touch_hook, int, (unsigned *));
@@ -174,7 +174,7 @@ static int touch_it(unsigned *at)
 }
 
 static void hook_it(void) { hooked = kmem_zalloc(sizeof(*hooked), KM_SLEEP); MODULE_HOOK_SET(touch_hook, touch_it); }
-HANDLER(call_hook, int result; MODULE_HOOK_CALL(touch_hook, (hooked), -1, result); bench_outcome("%d", result))
+HANDLER(call_hook, int result; MODULE_HOOK_CALL(touch_hook, (hooked), -1, result); explorer_outcome("%d", result))
 HANDLER(unset_hook, MODULE_HOOK_UNSET(touch_hook); kmem_free(hooked, sizeof(*hooked)))
 
 /* It forgets the calls that are under way. */
@@ -186,7 +186,7 @@ static unsigned word;
 static void *softint, *other_softint;
 static percpu_t *parts;
 
-HANDLER(tell_word, bench_outcome("%u", atomic_load_relaxed(&word)))
+HANDLER(tell_word, explorer_outcome("%u", atomic_load_relaxed(&word)))
 static void establish(void) { softint = softint_establish(SOFTINT_NET | SOFTINT_MPSAFE, tell_word, NULL); }
 
 /* The handler runs before the change, after it, or never: disestablishing it takes it off the queue. */
@@ -194,12 +194,12 @@ HANDLER(schedule_and_end, softint_schedule(softint); atomic_store_relaxed(&word,
 
 BODY(go_again)
 {
-	bench_outcome("g");
+	explorer_outcome("g");
 	if (atomic_inc_uint_nv(&word) < 4)
 		softint_schedule(softint);
 }
 
-HANDLER(tell, bench_outcome("2"))
+HANDLER(tell, explorer_outcome("2"))
 
 static void establish_greedy(void)
 {
@@ -236,7 +236,7 @@ static void look_at(void *own, void *arg, struct cpu_info *cpu)
 {
 	(void)arg;
 	if (cpu_index(cpu) < 2)
-		bench_outcome("%u", atomic_load_relaxed((unsigned *)own));
+		explorer_outcome("%u", atomic_load_relaxed((unsigned *)own));
 }
 
 HANDLER(ask_parts, percpu_foreach(parts, look_at, arg))
@@ -256,8 +256,8 @@ static const struct find cases[] = {
 	    .failed = "kmem_alloc at PLACE fails in thread \"first\"; kmem_alloc at PLACE fails in thread \"first\""},
 	{"once", "KASSERT: not so: ready, at PLACE", wait_once, make_ready, .finish = end_lock, .failures = 1,
 	    .failed = "cv_wait at PLACE ends although nobody woke it in thread \"first\""},
-	{"callout", "kmem_free at PLACE: what callout_init has made lies in it and was never destroyed", free_callout, .failed = ""},
-	{"work", "kmem_free at PLACE: what workqueue_enqueue has made lies in it and was never destroyed", free_work, .make = lock_works, .failed = ""},
+	{"callout", "kmem_free at PLACE: what callout_init has made at PLACE lies in it and was never destroyed", free_callout, .failed = ""},
+	{"work", "kmem_free at PLACE: what workqueue_enqueue has made at PLACE lies in it and was never destroyed", free_work, .make = lock_works, .failed = ""},
 	{"deadlock", "nobody can go on: thread \"first\" waits in workqueue_wait at PLACE for a wake-up that nobody is left to give", wait_with_lock,
 	    .make = lock_works, .failed = ""},
 	{"hook", "data race: thread \"first\" reads at PLACE, and thread \"second\" frees at PLACE", call_hook, free_early, .make = hook_it, .failed = ""},
@@ -280,8 +280,8 @@ static const struct find cases[] = {
 static bool tells_what_is_left_out(void)
 {
 	static const struct find timed = {.first = wait_for_time, .second = make_ready, .finish = end_lock};
-	struct bench_found found;
-	struct bench_options options = {.quiet = true};
+	struct explorer_found found;
+	struct explorer_options options = {.quiet = true};
 	bool right = !goes_wrong(&timed, options, 0, &found) && is_tried(&found) && found.failures == 0;
 	options.schedules = found.schedules + found.cut;
 	right &= !goes_wrong(&timed, options, 0, &found) && is_tried(&found);

@@ -1,5 +1,5 @@
 /*
- * finds [PICTURE] - one small piece of code for each thing that the bench finds, data races too, and what it says; and for each order that makes none. With
+ * finds [PICTURE] - one small piece of code for each thing that the explorer finds, data races too, and what it says; and for each order that makes none. With
  * a name it writes the picture of the first one, explorer/deadlock.svg, which has the numbers of its lines.
  */
 #include <xmmintrin.h>
@@ -49,8 +49,8 @@ static void begin_destroy(void)
 	psz = pserialize_create();
 	things = psref_class_create("thing", IPL_SOFTNET);
 	psref_target_init(&target, things);
-	bench_thread("hold", hold, NULL);
-	bench_thread("destroy", destroy, NULL);
+	explorer_thread("hold", hold, NULL);
+	explorer_thread("destroy", destroy, NULL);
 }
 
 static void make_things(void)
@@ -123,7 +123,7 @@ BODY(never_ends)
 
 static unsigned *volatile nowhere;
 
-/* The sanitizers, where the bench is built with them, leave the crash to it. */
+/* The sanitizers, where the explorer is built with them, leave the crash to it. */
 const char *__asan_default_options(void)
 {
 	return "handle_segv=0";
@@ -269,7 +269,7 @@ HANDLER(count_plainly, word++)
 static char counted_twice[128];
 
 /* The first order of the locks puts the accesses in an order, the other one doesn't. */
-HANDLER(write_then_lock, bench_point(); word = 1; mutex_enter(&one); mutex_exit(&one))
+HANDLER(write_then_lock, explorer_point(); word = 1; mutex_enter(&one); mutex_exit(&one))
 HANDLER(lock_then_write, mutex_enter(&one); mutex_exit(&one); word = 2)
 
 static char text[200], from[200];
@@ -321,7 +321,7 @@ BODY(step_up)
 BODY(look_twice)
 {
 	unsigned first = atomic_load_relaxed(&word);
-	bench_point();
+	explorer_point();
 	KASSERT(first == 3 || atomic_load_relaxed(&word) == first || first == 0);
 }
 
@@ -339,6 +339,36 @@ BODY(change_and_back)
 
 HANDLER(look, KASSERT(atomic_load_relaxed(&word) == 0 && atomic_load_relaxed(&other_word) != 2))
 HANDLER(come_first, atomic_store_relaxed(&other_word, 1))
+
+/* ---- The end of a cache whose objects are read in sections waits for the readers. ---- */
+
+static pool_cache_t readable;
+static unsigned *object;
+
+BODY(read_object)
+{
+	int s = pserialize_read_enter();
+	unsigned *found = atomic_load_acquire(&object);
+	explorer_point();
+	if (found != NULL)
+		KASSERT(*found == 5);
+	pserialize_read_exit(s);
+}
+
+BODY(end_cache)
+{
+	unsigned *old = object;
+	atomic_store_release(&object, NULL);
+	pool_cache_put(readable, old);
+	pool_cache_destroy(readable);
+}
+
+static void make_cache(void)
+{
+	readable = pool_cache_init(sizeof(unsigned), 0, 0, PR_PSERIALIZE, "readable", NULL, IPL_NONE, NULL, NULL, NULL);
+	object = pool_cache_get(readable, PR_WAITOK);
+	*object = 5;
+}
 
 /* ---- What is left at the end. ---- */
 
@@ -358,6 +388,40 @@ static void make_targets(void)
 
 HANDLER(count_in, localcount_acquire(&local))
 static void left_count(void) { localcount_init(&local); }
+
+/* A drain waits for a reference that nobody releases. */
+BODY(drain_held)
+{
+	while (!atomic_load_relaxed(&flag))
+		delay(10000);
+	mutex_enter(&one);
+	localcount_drain(&local, &cv, &one);
+	mutex_exit(&one);
+}
+
+HANDLER(count_in_and_end, localcount_acquire(&local); localcount_acquire(&local); atomic_store_relaxed(&flag, true))
+
+HANDLER(count_in_and_lock, localcount_acquire(&local); atomic_store_relaxed(&flag, true); mutex_enter(&two); mutex_enter(&one); mutex_exit(&one);
+    mutex_exit(&two); localcount_release(&local, &cv, &one))
+
+BODY(drain_with_other_lock)
+{
+	while (!atomic_load_relaxed(&flag))
+		delay(10000);
+	mutex_enter(&two);
+	mutex_enter(&one);
+	localcount_drain(&local, &cv, &one);
+	mutex_exit(&one);
+	mutex_exit(&two);
+}
+
+/* ---- An atomic access doesn't stand for the plain one behind it. ---- */
+
+HANDLER(store_both_ways, atomic_store_relaxed(&word, 1); word = 2)
+HANDLER(load_atomically, (void)atomic_load_relaxed(&word))
+/* A compiler may take the value of an atomic load for a plain one that follows it, if nothing is between. */
+HANDLER(load_both_ways, (void)atomic_load_relaxed(&word); __asm__ volatile("" ::: "memory"); other_word = word)
+HANDLER(store_atomically, atomic_store_relaxed(&word, 1))
 
 static void left_object(void) { (void)mutex_obj_alloc(MUTEX_DEFAULT, IPL_NONE); }
 
@@ -388,14 +452,14 @@ BODY(round_up)
 	const uint16_t up = X87_UP;
 	_mm_setcsr(MXCSR_UP);
 	__asm__ volatile("fldcw %0" : : "m"(up));
-	bench_point();
+	explorer_point();
 	KASSERT(_mm_getcsr() == MXCSR_UP && x87_word() == X87_UP);
 }
 
 BODY(round_to_nearest)
 {
 	KASSERT(_mm_getcsr() == MXCSR_NEAR && x87_word() == X87_NEAR);
-	bench_point();
+	explorer_point();
 	KASSERT(_mm_getcsr() == MXCSR_NEAR && x87_word() == X87_NEAR);
 }
 
@@ -454,7 +518,7 @@ static const struct find finds[] = {
 	{"freed memory by an atomic change of the thread itself", "atomic change at finds.c:*: use of freed memory: thread \"first\" gave it back",
 	    change_own_late, write_once, .make = make_block},
 	{"freed twice", "use of freed memory", free_block, free_block, .make = make_block},
-	{"a lock that is never destroyed", "what mutex_init has made lies in it and was never destroyed",
+	{"a lock that is never destroyed", "what mutex_init has made at finds.c:* lies in it and was never destroyed",
 	    forget_lock, write_once},
 	{"a write behind a block", "written behind a block of", write_behind, write_once, .make = make_block},
 	{"a write to the last bytes of freed memory", "something was written to freed memory", write_last_freed, .make = make_long_block},
@@ -470,10 +534,20 @@ static const struct find finds[] = {
 	{"a drain beside another waiter", NULL, wait_beside, drain_and_wake, release_last, .make = acquire_one},
 	{"a higher level's handler that waits", NULL, wait_for_level, write_once, .make = higher_waits},
 	{"a lower level's handler that waits", NULL, wait_for_level, write_once, .make = lower_waits},
+	{"the end of a cache that is read in sections", NULL, read_object, end_cache, .make = make_cache},
 	{"a lock object that is left", "taken by mutex_obj_alloc", write_once, write_once, .make = left_object},
-	{"the last of many targets that is left", "a target or a local count is left at the end",
+	{"the last of many targets that is left", "what psref_target_init has made at *finds.c:* is left at the end",
 	    write_once, write_once, .make = make_targets},
-	{"a count with references that are left", "a local count with 2 references is left at the end", count_in, count_in, .make = left_count},
+	{"a count with references that are left",
+	    "what localcount_init has made at *finds.c:* is left at the end, with 2 references, one of them acquired by thread \"*\" at *finds.c:",
+	    count_in, count_in, .make = left_count},
+	{"a drain of a reference that nobody has any more", "nobody can go on: thread \"second\" waits in localcount_drain at *finds.c:* for 2 references, "
+	    "one of them acquired by thread \"first\" at *finds.c:", count_in_and_end, drain_held, .make = left_count},
+	{"a drain of a reference that is held", "deadlock: thread \"first\" waits in mutex_enter at *finds.c:* for the lock of thread \"second\"; thread \"second\" "
+	    "waits in localcount_drain at *finds.c:* for 1 reference, acquired by thread \"first\" at *finds.c:", count_in_and_lock, drain_with_other_lock,
+	    .make = left_count},
+	{"an atomic store before a plain one", "data race: ", store_both_ways, load_atomically},
+	{"an atomic load before a plain one", "data race: ", load_both_ways, store_atomically},
 	{"a lock that is held at the end", "pthread_exit: with a lock", write_once, write_once, .finish = end_locked},
 	{"one variable under two locks", "data race: thread \"first\" writes at finds.c:*, and thread \"second\" reads at finds.c:",
 	    write_under_one, read_under_two},
@@ -499,7 +573,7 @@ static const struct find finds[] = {
 	{"a step, and two locks in two orders", "deadlock: thread \"first\" waits in mutex_enter at", step_one_two, step_two_one, .switches = 1},
 	{"the last of many words", "data race: ", write_many, write_last},
 	{"the last of many releases", "data race: ", release_many, acquire_another},
-	{"one of many locks that is left", "1 locks, condition variables or callouts are left at the end, one of them made by mutex_init", write_once,
+	{"one of many locks that is left", "1 locks, condition variables or callouts are left at the end, one of them made by mutex_init at finds.c:", write_once,
 	    .make = make_many_locks, .finish = destroy_all_but_one},
 	{"a thread's own way to round", NULL, round_up, round_to_nearest},
 	{"a fault by two ways", "KASSERT", change_and_back, look, come_first, .switches = 1},
@@ -507,9 +581,9 @@ static const struct find finds[] = {
 
 int main(int count, char **words)
 {
-	const struct bench_options pictured = {.name = "picture", .picture = words[1], .left = 4};
+	const struct explorer_options pictured = {.name = "picture", .picture = words[1], .left = 4};
 	if (count > 1)
-		return bench_explore(begin_destroy, &pictured);
+		return explorer_run(begin_destroy, &pictured);
 	snprintf(counted_twice, sizeof(counted_twice), "data race: thread \"first\" writes at finds.c:%d, and thread \"second\" * at finds.c:%d", COUNTED_AT,
 	    COUNTED_AT);
 	return run_finds(finds, sizeof(finds) / sizeof(finds[0]));

@@ -31,8 +31,8 @@ static void begin_key(void)
 	key_init();
 	struct secasvar *sav = key_newsav(256);
 	if (key_input_si != NULL)
-		bench_thread("receive", receive, NULL);
-	bench_thread("destroy", destroy_sav, sav);
+		explorer_thread("receive", receive, NULL);
+	explorer_thread("destroy", destroy_sav, sav);
 }
 
 static void end_key(void) { KASSERT(unrefs <= 1 && in_flight == NULL); key_fini(); }
@@ -73,10 +73,10 @@ static void begin_devsw(void)
 	devsw_init();
 	int error = devsw_attach(&first_cdev, 1);
 	KASSERT(error == 0 || error == ENOMEM);
-	bench_thread("open", open_devices, NULL);
+	explorer_thread("open", open_devices, NULL);
 	if (error == 0)
-		bench_thread("detach", detach_first, NULL);
-	bench_thread("attach", attach_second, NULL);
+		explorer_thread("detach", detach_first, NULL);
+	explorer_thread("attach", attach_second, NULL);
 }
 
 static void end_devsw(void)

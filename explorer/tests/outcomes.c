@@ -75,7 +75,7 @@ static struct {
 	const char *letters;
 	void (*handler)(void *);
 	void *cookie;
-} softints[SOFTINTS] = {[STORES] = {"ih", handle, NULL}, [COUNTS] = {"p", count_plainly, NULL}, [LOCKS] = {"m", lock_and_store, NULL}};
+} softints[SOFTINTS] = {[STORES] = {"ih", handle, NULL}, [COUNTS] = {"p:", count_plainly, NULL}, [LOCKS] = {"m", lock_and_store, NULL}};
 
 UNSEEN static void change_block(void *arg)
 {
@@ -260,6 +260,14 @@ UNSEEN static void use_cache(unsigned thread)
 	pool_cache_put(cache, object);
 }
 
+static void try_spin(unsigned thread)
+{
+	int got = mutex_tryenter(&spin);
+	observe(thread, (unsigned)got);
+	if (got)
+		mutex_exit(&spin);
+}
+
 UNSEEN static void execute(unsigned thread, char letter, unsigned value)
 {
 	switch (letter) {
@@ -282,7 +290,8 @@ UNSEEN static void execute(unsigned thread, char letter, unsigned value)
 	case '|': if (has_rw[thread]) rw_exit(&rw); break;
 	case 'g': use_target(thread); break;
 	case 'D': atomic_store_release(&gone, true); pserialize_perform(psz); psref_target_destroy(&target, things); break;
-	case 'h': case 'I': break;
+	case 'h': case ':': case 'I': break;
+	case '9': try_spin(thread); break;
 	case 'i': softint_schedule(softints[STORES].cookie); break;
 	case 'o': callout_reset(&callout, 1, ring, NULL); break;
 	case 'O': (void)callout_halt(&callout, NULL); break;
@@ -371,7 +380,7 @@ UNSEEN static void run_text(void *arg)
 static struct thing {
 	const char *letters, *maker, *ender;
 	void (*make)(void), (*end)(void);
-} all_things[20];
+} all_things[24];
 static unsigned thing_count;
 
 /* Programs with these letters work on it, and one with a letter of the next two makes or ends it itself. */
@@ -403,15 +412,17 @@ THING(lock, "()[]twsTSqQmuM56%", "", "", mutex_init(&locks[0], MUTEX_DEFAULT, IP
 THING(other_lock, "()[]twsTSqQmuM56%", "", "M", mutex_init(&locks[1], MUTEX_DEFAULT, IPL_SOFTNET), mutex_destroy(&locks[1]))
 THING(shared, "HF", "", "", shared = mutex_obj_alloc(MUTEX_DEFAULT, IPL_NONE), (void)0)
 THING(held, "I", "", "", mutex_obj_hold(shared), (void)0)
-THING(spin, "{}", "", "", mutex_init(&spin, MUTEX_SPIN, IPL_SOFTNET), mutex_destroy(&spin))
+THING(spin, "{}9", "", "", mutex_init(&spin, MUTEX_SPIN, IPL_SOFTNET), mutex_destroy(&spin))
 THING(rw, "rWRJUEG!-", "", "-", rw_init(&rw), rw_destroy(&rw))
 THING(cv, "wsTSqQuNVC56%", "", "C", cv_init(&cv, "flag"), cv_destroy(&cv))
 THING(psz, "<>PgDqQZ58", "", "Z", psz = pserialize_create(), pserialize_destroy(psz))
 THING(class, "gD0123", "", "0", things = psref_class_create("thing", IPL_SOFTNET), psref_class_destroy(things))
 THING(target_left, "gD0123", "1", "0", psref_target_init(&target, things), if (!gone) psref_target_destroy(&target, things))
-THING(all_softints, "ihpm", "", "", make_softints(), end_softints())
+THING(all_softints, "ihpm:", "", "", make_softints(), end_softints())
 /* A soft interrupt waits on CPU 0 from the beginning, and its thread is made before the others. */
 THING(early, "h", "", "", kupaldiz_bind(0); softint_schedule(softints[STORES].cookie); kupaldiz_unbind(), (void)0)
+/* The same of one whose handler is one step. */
+THING(early_count, ":", "", "", kupaldiz_bind(0); softint_schedule(softints[COUNTS].cookie); kupaldiz_unbind(), (void)0)
 THING(callout, "oO", "", "", callout_init(&callout, 0), (void)callout_halt(&callout, NULL); callout_destroy(&callout))
 THING(local, "qQ5678%", "4", "67", localcount_init(&local), if (!drained) drain())
 THING(pool, "?*", "", "", pool_init(&pool, 8, 0, 0, 0, "pool", NULL, IPL_NONE); pooled = pool_get(&pool, PR_WAITOK), (void)0)
@@ -432,19 +443,19 @@ static void begin(void)
 			own_softints[at] = softint_establish(SOFTINT_NET | SOFTINT_MPSAFE, change_block, texts[at]);
 		}
 		if (texts[at][0] != '\0')
-			bench_thread(names[at], run_text, texts[at]);
+			explorer_thread(names[at], run_text, texts[at]);
 	}
 }
 
 static void finish(void)
 {
 	for (unsigned at = 0; at < MOST; at++)
-		bench_outcome("%s,", seen[at]);
+		explorer_outcome("%s,", seen[at]);
 	for (unsigned at = 0; at < MOST; at++)
 		end_softint(at, false);
 	/* A soft interrupt of real threads may run later. */
 	if (!prints || !uses("iohjm"))
-		bench_outcome("%u %u %u %u", words[0], words[1], plains[0], plains[1]);
+		explorer_outcome("%u %u %u %u", words[0], words[1], plains[0], plains[1]);
 	for (const struct thing *it = &all_things[thing_count]; it-- > all_things;)
 		if (uses(it->letters) && !uses(it->ender))
 			it->end();
@@ -454,17 +465,18 @@ static void finish(void)
 static uint64_t most_schedules = 15000;
 static unsigned ticks = 1;	/* how often the clock may jump */
 
-static struct bench_found explore(bool whole)
+static struct explorer_found explore(bool whole)
 {
-	struct bench_found found;
+	struct explorer_found found;
 	/* A real thread may be late by several ticks on a busy machine. */
-	const struct bench_options options = {.quiet = true, .whole = whole, .reliable = true, .schedules = most_schedules, .finish = finish, .found = &found, .bounded = 1,
-	    .preemptions = 1, .random = 1, .racy = racy, .ticks = prints ? 3 : ticks};
-	bench_explore(begin, &options);
+	/* The layer on real threads has soft interrupts inside of sections, as the explorer has where it is strict. */
+	const struct explorer_options options = {.quiet = true, .whole = whole, .reliable = true, .strict = prints, .schedules = most_schedules, .finish = finish,
+	    .found = &found, .bounded = 1, .preemptions = 1, .random = 1, .racy = racy, .ticks = prints ? 3 : ticks};
+	explorer_run(begin, &options);
 	return found;
 }
 
-static void show(const struct bench_found *found, const char *which)
+static void show(const struct explorer_found *found, const char *which)
 {
 	printf("%s: %llu schedules, %u outcomes, %s%s\n", which, (unsigned long long)(found->schedules + found->cut), found->outcomes, found->line,
 	    is_tried(found) || found->states == 0 ? "" : " (not tried)");
@@ -473,7 +485,7 @@ static void show(const struct bench_found *found, const char *which)
 }
 
 /* Whether the reduced search has found a fault where the other one has, else each outcome of that one; and nothing more, if that one has tried all. */
-static bool agree(const struct bench_found *whole, const struct bench_found *reduced)
+static bool agree(const struct explorer_found *whole, const struct explorer_found *reduced)
 {
 	if (whole->first != 0 || reduced->first != 0)
 		return reduced->first != 0 && (whole->first != 0 || !is_tried(whole));
@@ -496,12 +508,12 @@ static void compare(void)
 	if (prints && uses(NOT_BESIDE))
 		return;
 	if (reduced_alone || prints) {
-		struct bench_found found = explore(false);
+		struct explorer_found found = explore(false);
 		show_program("program");
 		show(&found, "reduced");
 		return;
 	}
-	struct bench_found whole = explore(true), reduced = explore(false);
+	struct explorer_found whole = explore(true), reduced = explore(false);
 	bool all = is_tried(&whole) || whole.first != 0;
 	if (whole.others > 0 || (!all && !is_tried(&reduced) && reduced.first == 0)) {
 		skipped++;
@@ -600,7 +612,7 @@ static const char *const written[][3] = {
 	{"6", "7"}, {"8", "6"}, {"5A%", "8a"}, {"b&", "bcb"}, {"b&", "bcb=b"}, {"&", "c=&"}, {"'", "\""},
 	{"b`", "b`"}, {"ib", "^"}, {"J|", "J|"}, {"rU|", "!G!"}, {"WEa|", "!G!"}, {"bn", "bi"}, {"cjAe", "cm", "k"},
 	{"bn", "bn"}, {"b&", "b."}, {"~", "~"}, {"~a", "A"}, {"?", "*"}, {"/", "/"}, {"/", "//"}, {"/", "_"},
-	{";", "\""}, {"@", "$"},
+	{";", "\""}, {"@", "$"}, {"5a%", "c<>A"}, {"c<A>", "c9a"}, {":c<x>"}, {":c<x>", "c<>"},
 };
 
 static void compare_written(void)

@@ -1,12 +1,13 @@
 #!/usr/bin/env python3
 """Plants faults in the explorer's reduction, one at a time, each of which some program of the random comparison must tell.
 
-    rules.py FOLDER LINK.. -- COMPILE..    compiles the sources in a folder, links `outcomes` with them, and runs that
+    rules.py FOLDER LINK.. -- COMPILE..    compiles the sources in a folder, links `outcomes` and `programs` with them, and runs these
 
 First those of RULES. Then, for each place of the sources where a step says what it touches: the step doesn't say it; or it says that it reads what it writes.
 At last no fault: steps say no more than two things that they touch, and commute with nothing if they touch more. So the outcomes are still the same.
 `outcomes` shows what the search with the reduction comes to. A fault is told where that differs from what it comes to without one: in an outcome or a fault,
-or at least in the number of runs. The last line is 'N passed, M failed'.
+or at least in the number of runs. A rule's fault is told, too, where one of the random programs comes to something else than without the reduction. The last
+line is 'N passed, M failed'.
 """
 import os
 import pathlib
@@ -36,7 +37,13 @@ RULES = [
     Rule("commute", "each race has an initial of its own among the backtrack points",
          "can & (step->backtrack | step->explored | step->sleeping | UINT32_C(1) << step->chosen)", "step->backtrack | step->explored"),
     Rule("commute", "a step that acquires and releases enables nobody alone", "(first->how & (ACQUIRES | RELEASES)) == RELEASES", "(first->how & RELEASES) != 0"),
-    Rule("commute", "a guard may have been false before its thread waited", "return !step->guarded;", "return true;"),
+    Rule("commute", "a release enables only who waited for it", "(second->how & WAITED) != 0", "(second->how & ACQUIRES) != 0"),
+    Rule("commute", "a race that isn't direct plans each thread", "if (races[place].direct)", "if (true)"),
+    Rule("commute", "nothing covers a race of the clock's", "step->chosen != CLOCK && ", ""),
+    Rule("locks", "who takes a lock at once acquires it", "touch(ON_LOCK, word, 0, ACQUIRES);", "acquire_clock(ON_LOCK, word, 0);"),
+    Rule("locks", "who takes a lock at once hasn't waited for it", "(waits ? WAITED : 0)", "WAITED"),
+    Rule("softints", "a handler that takes its CPU acquires it", "touch(ON_LOCK, &me->cpu->hold, 0, WRITES | ACQUIRES);",
+         "touch(ON_LOCK, &me->cpu->hold, 0, WRITES); acquire_clock(ON_LOCK, &me->cpu->hold, 0);"),
     Rule("commute", "a thread that was disabled is looked for further back", "return (search->steps[earlier].enabled >> step->chosen & 1) != 0;", "return true;"),
     Rule("schedule", "a conflict wakes what sleeps", "if (are_dependent(set, &before->set))", "if (false && are_dependent(set, &before->set))"),
     Rule("schedule", "threads that are disabled at the end race", "	find_races_of_all_disabled(run.finish + 1);", "	;"),
@@ -44,16 +51,17 @@ RULES = [
     Rule("schedule", "the clock that is disabled races", "if (!clock_may_jump() && run.ticks < options.ticks)", "if (false)"),
     Rule("schedule", "the clock that is disabled waits for deadlines", ", {.size = 1, .kind = ON_DEADLINE, .cpu = ANY}", ""),
     Rule("schedule", "the clock that is disabled writes the time", "{.size = 1, .kind = ON_TIME, .how = WRITES}", "{.size = 1, .kind = ON_TIME}"),
-    Rule("schedule", "a soft interrupt waits for its queue", ".kind = ON_PENDING, .cpu = cpu", ".kind = ON_NOTHING, .cpu = cpu"),
+    Rule("schedule", "a soft interrupt waits for its queue", ".kind = ON_PENDING, .cpu =", ".kind = ON_NOTHING, .cpu ="),
     Rule("schedule", "a tick may change places, as long as the clock may jump", "if (run.ticks == options.ticks)\n		make_barrier();", "make_barrier();"),
-    Rule("locks", "a wake-up may come to a waiter whose time is over", "is_late(me) || me->may_end != IN_TIME ? 0 : ACQUIRES", "ACQUIRES"),
+    Rule("locks", "a wake-up may come to a waiter whose time is over", "is_late(me) || me->may_end != IN_TIME ? 0 : ACQUIRES | WAITED", "ACQUIRES | WAITED"),
 ]
 
 # What no program tells: the later step of each waits until the earlier one is made, so no order is lost. But it acquires the clock that the other releases.
 ORDERED = {
     "locks": "touch(ON_THREAD, joined, 0, ORDERS | ACQUIRES);",
     "routine": "touch(ON_THREAD, me, 0, WRITES | RELEASES);",
-    "more_calls": "made++;\n		touch(ON_XCALL, NULL, 0, WRITES | RELEASES);",
+    "explore": "touch_memory(run.outcome, sizeof(run.outcome), WRITES);",    # counts.c tells
+    "more_calls": "made++;\n		touch(ON_XCALL, (const void *)(uintptr_t)made, MADE, WRITES | RELEASES);",
 }
 
 # What a step touches: a kind of thing, or a call that says it; and that it writes that.
@@ -98,12 +106,18 @@ def plant_rule(rule, folder):
 
 
 def build(folder, link, words):
-    """Compiles the files of the folder, and links the program with them instead of the library's own."""
+    """Compiles the files of the folder, and links both programs with them instead of the library's own. The first one."""
     for file in folder.glob("*.c"):
         subprocess.run([*words, f"-I{SOURCES}", "-w", "-c", "-o", file.with_suffix(".o"), file], check=True)
-    program = folder / "outcomes"
-    subprocess.run([link[0], "-Wl,-z,now", "-o", program, link[1], *folder.glob("*.o"), *link[2:], "-pthread"], check=True)
-    return program
+    for program, test in zip(("outcomes", "programs"), link[1:3]):
+        subprocess.run([link[0], "-Wl,-z,now", "-o", folder / program, test, *folder.glob("*.o"), *link[3:], "-pthread"], check=True)
+    return folder / "outcomes"
+
+
+def differs(folder):
+    """Whether one of some random programs comes to something else than without the reduction: which."""
+    ran = subprocess.run([folder / "programs", "count", "300", "1"], stdout=subprocess.PIPE, stderr=subprocess.STDOUT, text=True, check=False)
+    return ran.stdout.split("\n")[0] if ran.returncode != 0 else None
 
 
 def run(program, planted=0):
@@ -122,10 +136,10 @@ def holds_with_small_sets(folder, link, words):
     return ran.returncode == 0
 
 
-def judge(name, right, said):
+def judge(name, right, said, told=None):
     """Prints by which program a fault is told. Whether it is."""
     pairs = list(zip_longest(said, right, fillvalue=("", "")))
-    told = next((text for (_, text), (_, other) in pairs if text != other), None)
+    told = told or next((text for (_, text), (_, other) in pairs if text != other), None)
     counted = next((text for (runs, text), (before, _) in pairs if runs != before), None)
     how = "told   " if told is not None else "counted" if counted is not None else "UNTOLD "
     print(f"{how} {name}: {(told or counted or '').split(chr(10))[0].strip(', ')}", flush=True)
@@ -147,7 +161,8 @@ def main():
     passed = []
     for rule in RULES:
         plant_rule(rule, prepared(rule.name))
-        passed.append(judge(rule.name, right, run(build(folder / rule.name, link, compiles))))
+        said = run(build(folder / rule.name, link, compiles))
+        passed.append(judge(rule.name, right, said, differs(folder / rule.name)))
     with ThreadPoolExecutor(os.cpu_count()) as pool:
         for name, said in zip(names, pool.map(lambda number: run(program, number), range(1, len(names) + 1))):
             passed.append(judge(name, right, said))

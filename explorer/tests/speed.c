@@ -1,8 +1,8 @@
-/* speed - how many switches and points the bench makes in a second of a processor: `speed LEAST` ends with status 1 where there are fewer switches */
+/* speed - how many switches and points the explorer makes in a second of a processor: `speed LEAST` ends with status 1 where there are fewer switches */
 #include <sys/atomic.h>
 #include <sys/resource.h>
 
-#include "../bench.h"
+#include "../explorer.h"
 #include "../../c/examples/expect.h"
 
 static unsigned words[2];
@@ -14,7 +14,7 @@ static void change(void *arg)
 		atomic_inc_uint(&words[at % 2]);
 }
 
-static void begin(void) { bench_thread("one", change, NULL); bench_thread("two", change, NULL); }
+static void begin(void) { explorer_thread("one", change, NULL); explorer_thread("two", change, NULL); }
 
 static double seconds(void)
 {
@@ -25,10 +25,10 @@ static double seconds(void)
 
 int main(int count, char **given)
 {
-	struct bench_found found;
-	const struct bench_options options = {.quiet = true, .whole = true, .schedules = 100000, .found = &found};
+	struct explorer_found found;
+	const struct explorer_options options = {.quiet = true, .whole = true, .schedules = 100000, .found = &found};
 	double from = seconds();
-	EXPECT(bench_explore(begin, &options) == 0 && found.exhausted);
+	EXPECT(explorer_run(begin, &options) == 0 && found.exhausted);
 	double took = seconds() - from;
 	printf("%.0f switches and %.0f points a second of a processor, in %llu runs\n", (double)found.switches / took, (double)found.points / took,
 	    (unsigned long long)found.schedules);

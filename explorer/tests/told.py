@@ -8,9 +8,9 @@ import re
 import sys
 from pathlib import Path
 
-BENCH = Path(__file__).resolve().parent.parent
+EXPLORER = Path(__file__).resolve().parent.parent
 WITHOUT = {
-    "looks at nothing but the thread itself": "assert_sleepable at cpu cpu_softintr_p curcpu curlwp kpreempt_disabled"
+    "looks at nothing but the thread itself": "assert_sleepable at cpu cpu_softintr_p curcpu curlwp hz kernel_locked kpreempt_disabled set_hz softnet"
     " mutex_ownable mutex_owned pserialize_in_read_section pserialize_not_in_read_section rw_write_held",
     "initialises what no other thread has yet": "kthread_create mutex_obj_alloc percpu_alloc percpu_create pool_cache_init pool_init pserialize_create"
     " psref_class_create softint_establish workqueue_create",
@@ -24,8 +24,8 @@ PRINTED = r"^([a-z-]+): (\d+) schedules, (\d+) cut short, \d+ states, (\d+) poin
 
 def points():
     """How many calls are as they should be, and what is wrong with the others."""
-    shown = set(re.findall(r"^\t\tkupaldiz_([a-z0-9_]+);$", (BENCH.parent / "netbsd/netbsd.map").read_text(), re.M))
-    sources = "".join(file.read_text() for file in sorted((BENCH / "src").glob("*.c")))
+    shown = set(re.findall(r"^\t\tkupaldiz_([a-z0-9_]+);$", (EXPLORER.parent / "netbsd/netbsd.map").read_text(), re.M))
+    sources = "".join(file.read_text() for file in sorted((EXPLORER / "src").glob("*.c")))
     wrapped = {re.sub("^kupaldiz_", "", name) for name in re.findall(r"^(?:LAYER|WRAPPED|AROUND|ANSWERED)\([^,]*, ([a-z_]+),", sources, re.M)}
     wrapped -= TOUCHES
     without = TOUCHES | {name for names in WITHOUT.values() for name in names.split()}
@@ -36,7 +36,7 @@ def points():
 
 def told():
     """The rows of the table, without what the threads do."""
-    text = (BENCH / "README.md").read_text()
+    text = (EXPLORER / "README.md").read_text()
     lines = text[text.index("| Case |") :].split("\n\n")[0].splitlines()[2:]
     cells = [[cell.strip().replace(",", "") for cell in line.strip("|").split("|")] for line in lines]
     return {(row[0], *row[2:]) for row in cells}

@@ -1,11 +1,11 @@
 /*
- * threads.c - bench.h on real threads, to compare the bench with: the same tests, linked with this and with netbsd
+ * threads.c - explorer.h on real threads, to compare the explorer with: the same tests, linked with this and with netbsd
  *
  * Each run has a process of its own, in which all threads begin at once. A run is wrong where its process ends by a signal or with another status than 0,
- * or takes more than five seconds. At each point stands a full barrier, and with BENCH_YIELD a chance to lose the processor: the bench's orders are those
+ * or takes more than five seconds. At each point stands a full barrier, and with EXPLORER_YIELD a chance to lose the processor: the explorer's orders are those
  * of one memory that all threads see alike.
  *
- * BENCH_RUNS says how many runs there are, and BENCH_SECONDS how long they may take.
+ * EXPLORER_RUNS says how many runs there are, and EXPLORER_SECONDS how long they may take.
  */
 #include <pthread.h>
 #include <sched.h>
@@ -21,10 +21,10 @@
 
 #include <kupaldiz/kernel.h>
 
-#include "../bench.h"
+#include "../explorer.h"
 
 /* The explorer's name of the build: the files of the tests refer to it. */
-const char KUPALDIZ_NAMED(REGISTRY_BUILT_FOR, KUPALDIZ_CPUS) = 0;
+const char KUPALDIZ_BUILT_FOR(KUPALDIZ_CPUS) = 0;
 
 /* A thread that was made. */
 struct made {
@@ -33,13 +33,13 @@ struct made {
 	pthread_t thread;
 };
 
-static struct made threads[BENCH_THREADS];
+static struct made threads[EXPLORER_THREADS];
 static unsigned thread_count;
 static pthread_barrier_t begin;
 static bool yields;
 static char *outcome;	/* that of the run: the parent has it, too */
 
-void bench_thread(const char *name, void (*body)(void *), void *arg)
+void explorer_thread(const char *name, void (*body)(void *), void *arg)
 {
 	(void)name;
 	threads[thread_count++] = (struct made){.body = body, .arg = arg};
@@ -55,7 +55,7 @@ static unsigned random_number(void)
 	return (unsigned)(at >> 40);
 }
 
-void bench_point(void)
+void explorer_point(void)
 {
 	__atomic_thread_fence(__ATOMIC_SEQ_CST);
 	if (yields && random_number() % 3 == 0)
@@ -68,7 +68,7 @@ void kupaldiz_point(const volatile void *address, size_t size, unsigned how, con
 	(void)size;
 	(void)how;
 	(void)place;
-	bench_point();
+	explorer_point();
 }
 
 void kupaldiz_from(const char *place)
@@ -81,12 +81,12 @@ void kupaldiz_unseen(const char *file)
 	(void)file;
 }
 
-void bench_outcome(const char *format, ...)
+void explorer_outcome(const char *format, ...)
 {
 	size_t length = strlen(outcome);
 	va_list words;
 	va_start(words, format);
-	vsnprintf(outcome + length, BENCH_TEXT - length, format, words);
+	vsnprintf(outcome + length, EXPLORER_TEXT - length, format, words);
 	va_end(words);
 }
 
@@ -99,7 +99,7 @@ static void *run_thread(void *of)
 }
 
 /* What a run does in its process. */
-static void run(void (*setup)(void), const struct bench_options *options)
+static void run(void (*setup)(void), const struct explorer_options *options)
 {
 	alarm(5);
 	setup();
@@ -114,24 +114,24 @@ static void run(void (*setup)(void), const struct bench_options *options)
 	_exit(0);
 }
 
-static void keep_outcome(struct bench_found *found)
+static void keep_outcome(struct explorer_found *found)
 {
-	struct bench_outcome *at = found->outcome;
+	struct explorer_outcome *at = found->outcome;
 	while (at < &found->outcome[found->outcomes] && strcmp(at->text, outcome) != 0)
 		at++;
-	if (at == &found->outcome[BENCH_OUTCOMES])
+	if (at == &found->outcome[EXPLORER_OUTCOMES])
 		return;
 	found->outcomes += at == &found->outcome[found->outcomes];
-	memcpy(at->text, outcome, BENCH_TEXT);
+	memcpy(at->text, outcome, EXPLORER_TEXT);
 	at->count++;
 }
 
 /* One run. Whether it was right. */
-static bool run_once(void (*setup)(void), const struct bench_options *options)
+static bool run_once(void (*setup)(void), const struct explorer_options *options)
 {
-	struct bench_found *found = options->found;
+	struct explorer_found *found = options->found;
 	int status;
-	memset(outcome, 0, BENCH_TEXT);
+	memset(outcome, 0, EXPLORER_TEXT);
 	fflush(NULL);
 	pid_t child = fork();
 	if (child == 0) {
@@ -156,19 +156,19 @@ static uint64_t number_of(const char *variable, uint64_t otherwise)
 	return text == NULL ? otherwise : strtoull(text, NULL, 10);
 }
 
-int bench_explore(void (*setup)(void), const struct bench_options *options)
+int explorer_run(void (*setup)(void), const struct explorer_options *options)
 {
-	struct bench_found *found = options->found;
-	uint64_t runs = number_of("BENCH_RUNS", 200);
-	time_t until = time(NULL) + (time_t)number_of("BENCH_SECONDS", 60);
-	outcome = mmap(NULL, BENCH_TEXT, PROT_READ | PROT_WRITE, MAP_SHARED | MAP_ANONYMOUS, -1, 0);
-	yields = getenv("BENCH_YIELD") != NULL;
-	*found = (struct bench_found){.bound = -1, .complete = true};
+	struct explorer_found *found = options->found;
+	uint64_t runs = number_of("EXPLORER_RUNS", 200);
+	time_t until = time(NULL) + (time_t)number_of("EXPLORER_SECONDS", 60);
+	outcome = mmap(NULL, EXPLORER_TEXT, PROT_READ | PROT_WRITE, MAP_SHARED | MAP_ANONYMOUS, -1, 0);
+	yields = getenv("EXPLORER_YIELD") != NULL;
+	*found = (struct explorer_found){.bound = -1, .complete = true};
 	while (found->schedules < runs && time(NULL) < until && found->first == 0)
 		if (!run_once(setup, options))
 			found->first = found->schedules;
 	if (!options->quiet)
 		printf("%s: %llu runs%s%s\n", options->name, (unsigned long long)found->schedules, found->first == 0 ? ", none was wrong" : ": FAULT: ", found->line);
-	munmap(outcome, BENCH_TEXT);
+	munmap(outcome, EXPLORER_TEXT);
 	return found->first != 0;
 }

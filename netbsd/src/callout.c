@@ -164,7 +164,7 @@ static void make_pending(struct thread *me, callout_t *callout, int ticks)
 	if ((callout->c_state & PENDING) != 0)
 		unlink_callout(callout);
 	callout->c_state = (callout->c_state & ~(uint32_t)(FIRED | INVOKING)) | PENDING;
-	callout->c_due = now() + (int64_t)(ticks > 0 ? ticks : 1) * TICK;
+	callout->c_due = now() + (int64_t)(ticks > 0 ? ticks : 1) * tick_length();
 	callout->c_cpu = cpu_of(me)->info.ci_index;
 	callout->c_next = callouts;
 	callouts = callout;
@@ -214,17 +214,19 @@ bool callout_halt(callout_t *callout, void *interlock)
 {
 	struct thread *me = lock_callout(begin_call(__func__), callout);
 	stop_if(me, interlock != NULL && !has_mutex(me, interlock), "the thread does not have the lock");
-	bool expired = cancel(callout), runs = running_cpu(me, callout) < KUPALDIZ_CPUS;
-	if (runs) {
-		if (interlock != NULL)
-			release_mutex(me, interlock);
-		require_sleepable(me);
-		await_end(me, callout);
-		/* It may have been set since its body ended. */
-		cancel(callout);
-	}
+	bool expired = cancel(callout);
+	if (running_cpu(me, callout) == KUPALDIZ_CPUS)
+		return unlock_with(expired);
+	if (interlock != NULL)
+		release_mutex(me, interlock);
+	require_sleepable(me);
+	struct sleep sleep = begin_sleep(me);
+	await_end(me, callout);
+	/* It may have been set since its body ended. */
+	cancel(callout);
 	pthread_mutex_unlock(&lock);
-	if (runs && interlock != NULL)
+	end_sleep(me, sleep);
+	if (interlock != NULL)
 		acquire_mutex(me, interlock);
 	return expired;
 }

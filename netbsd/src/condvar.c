@@ -38,13 +38,13 @@ bool wait_for(struct thread *me, kcondvar_t *cv, kmutex_t *mutex, int64_t nanose
 	require_mutex(me, mutex);
 	stop_if(me, !has_mutex(me, mutex), "the thread does not have the lock");
 	require_sleepable_with(me, mutex);
-	int waits = begin_wait();
 	sleepq_lock(sleepq);
 	release_mutex(me, mutex);
+	struct sleep sleep = begin_sleep(me);
 	bool woken = sleepq_wait(sleepq, cv, me, nanoseconds < 0 ? NULL : &deadline);
 	sleepq_unlock(sleepq);
+	end_sleep(me, sleep);
 	acquire_mutex(me, mutex);
-	end_wait(waits);
 	return woken;
 }
 
@@ -60,12 +60,9 @@ void wake_cv(struct thread *me, kcondvar_t *cv, bool all)
 	sleepq_unlock(sleepq);
 }
 
-/* A wait of the code's own. 0 ticks are for ever. Below 0 the time is over already. */
-static int timedwait(struct thread *me, kcondvar_t *cv, kmutex_t *mutex, int ticks, bool signals)
+/* How a wait of the code's own ended. */
+int ending_of(bool woken)
 {
-	int64_t nanoseconds = ticks == 0 ? -1 : ticks < 0 ? 0 : (int64_t)ticks * TICK;
-	MAY_END_EARLY(signals);
-	bool woken = wait_for(me, cv, mutex, nanoseconds);
 	switch (LAST_ENDING()) {
 	case AS_IF_WOKEN:
 		return 0;
@@ -74,6 +71,14 @@ static int timedwait(struct thread *me, kcondvar_t *cv, kmutex_t *mutex, int tic
 	default:
 		return woken ? 0 : EWOULDBLOCK;
 	}
+}
+
+/* A wait of the code's own. 0 ticks are for ever. Below 0 the time is over already. */
+static int timedwait(struct thread *me, kcondvar_t *cv, kmutex_t *mutex, int ticks, bool signals)
+{
+	int64_t nanoseconds = ticks == 0 ? -1 : ticks < 0 ? 0 : (int64_t)ticks * tick_length();
+	MAY_END_EARLY(signals);
+	return ending_of(wait_for(me, cv, mutex, nanoseconds));
 }
 
 void cv_wait(kcondvar_t *cv, kmutex_t *mutex) { (void)timedwait(begin_call(__func__), cv, mutex, 0, false); }

@@ -30,7 +30,19 @@ int64_t now(void)
 	return (int64_t)time.tv_sec * 1000000000 + time.tv_nsec;
 }
 
-int getticks(void) { return (int)(now() / TICK); }
+static int ticks_a_second = 100;
+
+int kupaldiz_hz(void) { return ticks_a_second; }
+int64_t tick_length(void) { return 1000000000 / ticks_a_second; }
+
+void kupaldiz_set_hz(int number)
+{
+	struct thread *me = begin_call(__func__);
+	stop_if(me, number < 1 || number > 1000000, "no number of ticks a second");
+	ticks_a_second = number;
+}
+
+int getticks(void) { return (int)(now() / tick_length()); }
 time_t getuptime(void) { return time_after(0).tv_sec; }
 
 void delay(unsigned microseconds)
@@ -44,19 +56,20 @@ void delay(unsigned microseconds)
 int kpause(const char *name, bool interruptible, int ticks, kmutex_t *mutex)
 {
 	struct thread *me = begin_call(__func__);
-	struct timespec left = {ticks * (long)TICK / 1000000000, ticks * (long)TICK % 1000000000};
+	int64_t nanoseconds = ticks * tick_length();
+	struct timespec left = {nanoseconds / 1000000000, nanoseconds % 1000000000};
 	(void)name;
 	if (mutex != NULL)
 		release_mutex(me, mutex);
 	require_sleepable(me);
 	stop_if(me, ticks <= 0, "no time to sleep for");
 	bool ended = interruptible && FAILS();
-	int waits = begin_wait();
+	struct sleep sleep = begin_sleep(me);
 	if (ended)
 		sched_yield();
 	while (!ended && nanosleep(&left, &left) != 0)
 		;	/* a signal has come to the process, which isn't the thread's */
-	end_wait(waits);
+	end_sleep(me, sleep);
 	if (mutex != NULL)
 		acquire_mutex(me, mutex);
 	return ended ? EINTR : EWOULDBLOCK;
@@ -142,11 +155,11 @@ void kthread_exit(int code)
 void await_thread(struct thread *me, pthread_t id, const struct thread *thread)
 {
 	struct pauses pauses = begin_pauses();
-	int waits = begin_wait();
+	struct sleep sleep = begin_sleep(me);
 	while (pthread_tryjoin_np(id, NULL) == EBUSY)
-		if (pause_longer(&pauses, NULL))
+		if (pause_longer(&pauses))
 			report(me, "waits for thread \"%s\" to end", NAME_OF(thread));
-	end_wait(waits);
+	end_sleep(me, sleep);
 }
 
 int kthread_join(lwp_t *thread)

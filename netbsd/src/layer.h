@@ -1,38 +1,21 @@
 /*
  * layer.h - what the parts of the layer share; no program includes it, except tests that look into the layer
  *
- * A registry and its CPUs are a bank. All CPUs of a bank but the last are those of cpu.h, and the last is the writers'. Attaches, detaches and turns of waits
- * are made on that one, under the one lock `interlock`, which is also the keepers'. There is one bank at first. Further ones are opened where all slots
- * are taken; one whose changes are used up gets no new target, and is opened anew once it is empty.
+ * A CPU is a lock, `hold`. A thread has a CPU by taking that lock, for as long as it has a reason: a call, a section, a spin lock, a raised level. Whoever has
+ * the CPU alone uses its table of references, and its part of each local count.
  *
- * A thread has a CPU by taking the CPU's lock `hold`, for as long as it has a reason: a call, a section, a spin lock, a raised level. Whoever has
- * the CPU alone uses its handles, its table of references, and its place among the banks.
+ * A read section of pserialize(9) has its CPU throughout. So whoever has had each CPU once has waited for all sections that were open before (visits.c):
+ * that is pserialize_perform. A section that begins later took its CPU's lock after the perform had it, so it sees what the writer stored before.
  *
- * A read section of pserialize(9) is a section of the thread's CPU in the bank that this CPU takes for its sections: most often the first; a CPU whose
- * sections are used up there goes on in another one. pserialize_perform is a wait for all open sections of each such bank. The caller's list isn't among the
- * registry's words, so a full fence stands between its words and the section words: after an enter, and before a wait. A reader whose enter the wait doesn't
- * see thus sees what the writer stored before it. A CPU that goes to another bank does so under the interlock: a wait that begins later sees it, and of one
- * that began before, the reader sees all stores.
+ * A passive reference is a place in the table of its CPU, which its thread doesn't leave. psref_target_destroy marks the target, so that nobody acquires it any
+ * more, and goes to each CPU: it waits until the CPU's table has no reference to the target. A copy of one needs one on that CPU, so what it has left behind
+ * stays without. A section has its CPU, so the one in which the last reference was released has ended, too. A release of a marked target wakes it.
  *
- * Each psref_target and each localcount is a driver of a bank, with a generated name that no other ever has, and the address of its owner as its
- * value. Its slot is also its row in the bank; the owner notes row and serial, and the row notes the owner. A call is right in what it is given where both
- * notes agree.
+ * A local count has a part on each CPU, to which an acquire adds 1, and from which a release on any CPU takes 1. localcount_drain marks the count, and adds all
+ * parts up, each while it has the CPU. A release that sees the mark takes 1 from the sum, under the caller's lock, and the one that makes it 0 wakes the
+ * drain, which can't return before that lock is free. After any other release the count isn't touched again, for the drain may have returned.
  *
- * psref_acquire is registry_get: it acquires the entry with its name, by an addition and a load, or in a section of its own, nested in the open one if that
- * is of the same bank. What isn't found is being destroyed. A reader who met a target in the caller's list finds its entry, too: the attach came before the
- * list had the target. No contract says that, since the reader's CPU hasn't heard of the attach.
- *
- * localcount_acquire acquires a local reference. That is a handle, and localcount_release gets none: any release lets go of any reference. So the handles
- * that are held lie on a stack in the row, under the row's lock.
- *
- * psref_target_destroy and localcount_drain detach the entry, and then make turns of destroying it until it is freed, without the interlock between
- * two. psref_target_destroy then performs: the sections in which the last references were released have ended as well. A drain waits for the
- * caller's condition variable between two turns once the counts are collected. A release on a CPU whose count was collected is told so while its
- * reference is still held: only then it takes the caller's lock, gives the reference up, and wakes the drain, which can't return before that lock is
- * free. After any other release the count isn't touched again, for the drain may have returned.
- *
- * The order of locks: the caller's, then a CPU's hold, then the row's or the interlock, and a sleep queue of lock.c. No other lock is taken under the
- * last three.
+ * The order of locks: the caller's, then a CPU's hold, and a sleep queue of lock.c. No other lock is taken under the last.
  */
 #ifndef KUPALDIZ_NETBSD_LAYER_H
 #define KUPALDIZ_NETBSD_LAYER_H
@@ -61,73 +44,28 @@
 #include "../include/kupaldiz/psref.h"
 #include "../include/kupaldiz/softint.h"
 #include "../include/kupaldiz/workqueue.h"
-#include "registry.h"
 
-/* The limits, which a test may change: of a bank; a drain's nanoseconds between two looks; a wait's milliseconds before it says what it waits for. */
-#ifndef KUPALDIZ_ROWS
-#define KUPALDIZ_ROWS		32
-#endif
-#ifndef KUPALDIZ_BANKS
-#define KUPALDIZ_BANKS		8192
-#endif
-#ifndef KUPALDIZ_CHANGES
-#define KUPALDIZ_CHANGES	REGISTRY_MOST_CHANGES
-#endif
-#ifndef KUPALDIZ_SECTIONS
-#define KUPALDIZ_SECTIONS	REGISTRY_MOST_SECTIONS
-#endif
-#ifndef KUPALDIZ_REFERENCES
-#define KUPALDIZ_REFERENCES	REGISTRY_MOST_COUNT
-#endif
-#ifndef KUPALDIZ_LOOKS
-#define KUPALDIZ_LOOKS		1000000
-#endif
+/* How many milliseconds a wait lasts before it says what it waits for. */
 #ifndef KUPALDIZ_PATIENCE
 #define KUPALDIZ_PATIENCE	5000
 #endif
 
 enum {
-	WRITERS = KUPALDIZ_CPUS,
-	ALL_CPUS = KUPALDIZ_CPUS + 1,
-	ROWS = KUPALDIZ_ROWS,
-	MOST_BANKS = KUPALDIZ_BANKS,
 	LINE = 64,
 	MOST_PLACES = 6,
 	LAST_ROUND = PTHREAD_DESTRUCTOR_ITERATIONS - 1,	/* of destructors: in the one after it the thread sanitizer is gone */
 	LONGEST_PAUSE = 1000000,	/* nanoseconds */
-	LEVELS = IPL_HIGH + 1,
-	TICK = 1000000000 / 100		/* nanoseconds: hz is 100 */
+	LEVELS = IPL_HIGH + 1
 };
 
-_Static_assert((int)ALL_CPUS <= (int)REGISTRY_MOST_CPUS && (int)ROWS <= (int)REGISTRY_MOST_SLOTS, "a registry has these CPUs, one of them the writers', and rows");
-
-/* clang says otherwise which sanitizers it compiles with. */
-#if defined(__has_feature) && !defined(__SANITIZE_THREAD__) && !defined(__SANITIZE_ADDRESS__)
-#if __has_feature(thread_sanitizer)
-#define __SANITIZE_THREAD__
-#elif __has_feature(address_sanitizer)
+/* clang says otherwise that it compiles with the sanitizer of addresses. */
+#if defined(__has_feature) && !defined(__SANITIZE_ADDRESS__)
+#if __has_feature(address_sanitizer)
 #define __SANITIZE_ADDRESS__
 #endif
 #endif
 
-/* What the thread sanitizer is told of the order that the archive, which isn't compiled with it, makes. */
-#ifdef __SANITIZE_THREAD__
-void __tsan_acquire(void *address);
-void __tsan_release(void *address);
-void __tsan_write1(void *address);
-#define COMES_AFTER(edge)	__tsan_acquire(edge)
-#define COMES_BEFORE(edge)	__tsan_release(edge)
-#define USED_BY_CALL(handle)	__tsan_write1(handle)	/* a handle is used by one call at a time */
-#ifndef __clang__
-#pragma GCC diagnostic ignored "-Wtsan"
-#endif
-#else
-#define COMES_AFTER(edge)	((void)(edge))
-#define COMES_BEFORE(edge)	((void)(edge))
-#define USED_BY_CALL(handle)	((void)(handle))
-#endif
-
-/* What is told of an object that nobody uses, but that stays as it is: the address sanitizer, or the bench. */
+/* What is told of an object that nobody uses, but that stays as it is: the address sanitizer, or the explorer. */
 #ifndef HIDE
 #ifdef __SANITIZE_ADDRESS__
 void __asan_poison_memory_region(const volatile void *at, size_t size);
@@ -143,9 +81,11 @@ void __asan_unpoison_memory_region(const volatile void *at, size_t size);
 /* How a wait for a condition variable ends: early if nobody ended it. */
 enum ending { IN_TIME, AS_IF_WOKEN, BY_SIGNAL };
 
-/* What the bench alone decides: whether a call that may fail does so, and whether the code's next wait, which may be one that signals end, ends early; how
+/* What the explorer alone decides: whether a call that may fail does so, and whether the code's next wait, which may be one that signals end, ends early; how
  * the last one has ended. It is told of a work that isn't in its queue any more. */
 #ifndef FAILS
+#define STRICT()		true	/* what the kernel allows stops where it is no good */
+#define LOWERS_LEVEL()		false	/* a call that may sleep gives a raised level up until its end */
 #define FAILS()			false
 #define MAY_END_EARLY(signals)	((void)(signals))
 #define LAST_ENDING()		IN_TIME
@@ -199,6 +139,7 @@ struct thread {
 	const char *entered;		/* where the outermost one was entered */
 	unsigned references;		/* passive references */
 	unsigned locks;			/* locks that don't spin */
+	unsigned kernel_locks;		/* how often it has the kernel lock */
 	unsigned preemptions;		/* kpreempt_disable */
 	unsigned spins;			/* spin locks */
 	unsigned spins_at[IPL_HIGH + 1];	/* of them, those of each level */
@@ -223,7 +164,6 @@ struct reference {
 	const char *place;
 	struct thread *thread;
 	uint64_t serial;
-	uint32_t via;			/* the registry's CPU that counts it: this one, or the writers' */
 	uint32_t next;			/* of those that are free, or in the chain of its storage's address */
 };
 
@@ -236,15 +176,13 @@ struct places {
 struct cpu {
 	_Alignas(LINE) struct cpu_info info;	/* first */
 	uintptr_t hold;			/* the lock of who has the CPU; what follows is theirs */
-	struct bank *bank;		/* of its sections */
 	struct reference *references;
 	uint32_t *chains;		/* the first reference of each, by the address of its storage; NOTHING where there is none */
-	uint32_t room, first_free, counted_elsewhere;	/* there are as many chains as places: a power of two, or none */
+	uint32_t room, first_free;	/* there are as many chains as places: a power of two, or none */
 	uint64_t serial;
 	uint32_t pending;		/* an atomic: a bit for each level with a soft interrupt that may run next */
 	uint32_t blocked, goes_on;	/* the levels with a handler that waits for a lock; that has it, and waits for the CPU. Under pending_list */
 	uint32_t bound;			/* an atomic: threads that are bound to it */
-	char edge;			/* what comes before the end of a section */
 };
 
 #define NOTHING	UINT32_MAX
@@ -304,6 +242,18 @@ static inline int begin_wait(void)
 
 static inline void end_wait(int before) { pthread_setcancelstate(before, NULL); }
 
+/* ---- kernel_lock.c: what a thread that sleeps has given up meanwhile. It isn't cancelled, either. ---- */
+
+struct sleep {
+	int cancels;
+	unsigned kernel_locks;
+};
+
+extern kmutex_t kernel_lock;
+
+struct sleep begin_sleep(struct thread *me);
+void end_sleep(struct thread *me, struct sleep sleep);
+
 /* ---- softint.c, and the threads of soft interrupts in softint_thread.c ---- */
 
 extern pthread_mutex_t pending_list;
@@ -356,8 +306,8 @@ _Noreturn void stop_at(const char *call, const char *place, const char *format, 
 		vsnprintf(array, sizeof(array), format, words); \
 		va_end(words); \
 	} while (0)
-void must_succeed(const struct thread *me, uint32_t answer);
 void report(const struct thread *me, const char *format, ...) __attribute__((format(printf, 2, 3)));
+extern int64_t patience_milliseconds;	/* KUPALDIZ_PATIENCE, which a test may change */
 struct timespec patience(void);
 const char *name_of(const struct thread *thread, char *text, size_t room);
 const char *at_place(const char *place, char *text, size_t room);
@@ -376,80 +326,63 @@ static inline struct thread *sleepable(struct thread *me)
 #define NAME_OF(thread)	name_of(thread, (char[64]){""}, 64)
 #define AT_PLACE(place)	at_place(place, (char[256]){""}, 256)
 
-/* ---- registries.c ---- */
+struct counts;
 
-/* What is kept of the entry in one slot of a bank. */
-struct row {
-	_Alignas(LINE) uint64_t serial;	/* left alone while there is an owner, as are the next two */
-	uint64_t number;
-	struct registry_name name;
-	bool retired;			/* under the interlock */
-	char gone;			/* an edge: what comes before the last release */
-	pthread_mutex_t lock;		/* of what follows */
-	struct held *held;		/* a stack of the local references that are held */
-	size_t count, room;
-	const kcondvar_t *cv;		/* those of the count, once a release or a drain has named them */
-	const kmutex_t *interlock;
+/* ---- owners.c: the targets and counts that are live. ---- */
+
+/* What a live one has in its word, and one that is being destroyed or drained: with its address, so that one that was copied by its bytes is told. */
+static inline uint64_t live_at(const void *owner) { return (uintptr_t)owner ^ UINT64_C(0x4c69766500000000); }
+static inline uint64_t ending_at(const void *owner) { return (uintptr_t)owner ^ UINT64_C(0x456e647300000000); }
+
+struct owner {
+	const void *at;			/* NULL where the row is free */
+	const struct counts *counts;	/* of a count; NULL of a target */
+	const char *call, *place;	/* the call that made it live */
 };
 
-struct held {
-	struct registry_local local;
-	const char *place;
-};
+void note_owner(struct thread *me, const void *at, const struct counts *counts);
+void forget_owner(const void *at);
+const struct owner *live_owner(void);
 
-struct bank {
-	struct registry_keeper keeper;	/* this and what follows up to the CPUs under the interlock */
-	unsigned place;
-	unsigned live;			/* slots that are taken */
-	unsigned hosts;			/* CPUs that take it for their sections */
-	unsigned waits;			/* performs under way */
-	bool used_up;			/* it gets no more targets, and no more CPUs' sections */
-	bool swept;			/* it is in no use, and a sweep opens it anew */
+/* ---- visits.c: waits that go to each CPU. The explorer has them otherwise. ---- */
+
+void await_sections(struct thread *me);
+void await_unreferenced(struct thread *me, const struct psref_target *target);
+void tell_release(const struct psref_target *target);
+void collect_counts(struct thread *me, struct counts *counts);
+
+/* ---- psref.c and localcount.c ---- */
+
+const struct reference *find_reference(const struct cpu *cpu, const struct psref_target *target, const struct thread *of);
+void report_references(struct thread *me, const struct cpu *cpu, const struct psref_target *target);
+
+struct counts {
+	int64_t collected;		/* the parts of the CPUs, as a drain found them; the drain's alone */
+	int64_t left;			/* under the interlock: what is held, once the drain has added the former; releases take from it before, too */
+	const char *place;		/* where a reference in it was acquired */
+	int64_t held;			/* an atomic, for assertions */
+	const void *cv, *interlock;	/* those of the count, once a release or a drain has named them; atomics */
 	struct {
-		_Alignas(LINE) struct registry_cpu cpu;
-	} cpus[ALL_CPUS];
-	_Alignas(LINE) const void *owners[ROWS];	/* atomics: the target or the count, NULL where there is none */
-	struct row rows[ROWS];
+		_Alignas(LINE) int64_t count;	/* under the CPU's lock, as is the next */
+		const char *place;	/* where the last one was acquired */
+	} on[KUPALDIZ_CPUS];
 };
 
-struct found_row {
-	struct bank *bank;
-	struct row *row;
-};
-
-void open_banks(struct thread *me);
-void enter_interlock(void);
-void exit_interlock(void);
-struct registry_cpu *writers(struct bank *bank);
-struct registry_cpu *handle_of(struct thread *me, struct bank *bank);
-void attach_row(struct thread *me, const void *owner, uint64_t *serial, uint64_t *place);
-bool find_row(const void *owner, uint64_t serial, uint64_t place, struct found_row *found);
-void retire_row(struct thread *me, struct found_row at, const void *owner);
-bool try_free_row(struct thread *me, struct found_row at, struct registry_stage *met);
-void enter_section(struct thread *me);
-void exit_section(struct thread *me);
-void perform_all(struct thread *me);
-void sweep_banks(struct thread *me);
-const void *live_owner(size_t *held);
-void close_banks(struct thread *me);
-
-/* ---- Waits: lock.c, pserialize.c and psref.c. ---- */
+/* ---- Waits: lock.c and pserialize.c. ---- */
 
 struct pserialize {
 	unsigned performing;	/* an atomic */
 };
 
-/* A wait's pauses: how long the next one is, and when it says what it waits for. */
+/* A wait's pauses: how long the next one is, and when it says what it waits for: not again where the seconds are 0. */
 struct pauses {
 	long nanoseconds;
 	struct timespec tells;
 };
 
 struct pauses begin_pauses(void);
-bool pause_longer(struct pauses *pauses, const struct registry_stage *met);
+bool pause_longer(struct pauses *pauses);
 bool pauses_are_over(struct pauses *pauses);
-void report_section_wait(struct thread *me, uint64_t cpu);
-void report_reference_wait(struct thread *me, uint64_t cpu, const struct psref_target *target);
 
 /* ---- mutex.c, condvar.c and kernel.c, for other calls. ---- */
 
@@ -463,6 +396,8 @@ bool wait_for(struct thread *me, kcondvar_t *cv, kmutex_t *mutex, int64_t nanose
 void wake_cv(struct thread *me, kcondvar_t *cv, bool all);
 void await_thread(struct thread *me, pthread_t id, const struct thread *thread);
 int64_t now(void);
+int64_t tick_length(void);	/* in nanoseconds */
+int ending_of(bool woken);
 
 /* What each made thing has in its word, so that one that never was made, or has been ended, is told. */
 enum { A_MUTEX = 0x4d757478, A_CV = 0x436f6e64, A_RW = 0x52774c6b, A_CALLOUT = 0x43616c6c, ENDED = 0x456e6465 };

@@ -1,164 +1,134 @@
 /* localcount.c - localcount(9) */
 #include "layer.h"
 
-enum { DRAINED = 1, FINISHED, FIRST_ROOM = 8 };
+/* The words of a count beside live_at and ending_at. */
+enum { DRAINED = 1, FINISHED };
 
 void localcount_init(struct localcount *lc)
 {
 	struct thread *me = sleepable(begin_call(__func__));
-	attach_row(me, lc, &lc->lc_serial, &lc->lc_row);
+	struct counts *counts = NULL;
+	stop_if(me, posix_memalign((void **)&counts, LINE, sizeof(*counts)) != 0, "out of memory");
+	memset(counts, 0, sizeof(*counts));
+	note_owner(me, lc, counts);
+	lc->lc_counts = counts;
+	__atomic_store_n(&lc->lc_state, live_at(lc), __ATOMIC_RELEASE);
 }
 
 void localcount_fini(struct localcount *lc)
 {
 	struct thread *me = begin_call(__func__);
-	stop_if(me, lc->lc_serial != 0 || lc->lc_row != DRAINED, "the count is not drained");
-	lc->lc_row = FINISHED;
+	stop_if(me, lc->lc_state != DRAINED, "the count is not drained");
+	lc->lc_state = FINISHED;
 }
 
-static struct found_row count_row(const struct thread *me, const struct localcount *lc)
+static bool is_draining(const struct localcount *lc)
 {
-	struct found_row found;
-	stop_if(me, !find_row(lc, lc->lc_serial, lc->lc_row, &found), "the count is not live");
-	return found;
+	return __atomic_load_n(&lc->lc_state, __ATOMIC_ACQUIRE) == ending_at(lc);
 }
 
-/* Stops where the condition variable or the interlock differs from the one before. The row is locked. */
-static void require_same(struct thread *me, struct row *row, const kcondvar_t *cv, const kmutex_t *interlock)
+static struct counts *counts_of(const struct thread *me, const struct localcount *lc)
 {
-	stop_if(me, row->interlock != NULL && row->interlock != interlock, "the interlock differs from the one before");
-	stop_if(me, row->cv != NULL && row->cv != cv, "the condition variable differs from the one before");
-	row->interlock = interlock;
-	row->cv = cv;
+	stop_if(me, __atomic_load_n(&lc->lc_state, __ATOMIC_ACQUIRE) != live_at(lc) && !is_draining(lc), "the count is not live");
+	return lc->lc_counts;
 }
 
-static size_t held_count(struct row *row, const char **place)
+/* Notes what a call names, the first time. Whether it is the same as before. */
+static bool is_same(const void **noted, const void *named)
 {
-	pthread_mutex_lock(&row->lock);
-	size_t count = row->count;
-	*place = count > 0 ? row->held[count - 1].place : NULL;
-	pthread_mutex_unlock(&row->lock);
-	return count;
+	const void *before = NULL;
+	return __atomic_compare_exchange_n(noted, &before, named, false, __ATOMIC_RELAXED, __ATOMIC_RELAXED) || before == named;
 }
 
-/* Acquires a reference on a CPU of the registry's, in a section of its own or in the one that is open. */
-static uint32_t acquire_on(struct thread *me, struct registry_cpu *handle, const struct row *row, struct registry_local *reference)
+static void require_same(struct thread *me, struct counts *counts, const kcondvar_t *cv, const kmutex_t *interlock)
 {
-	uint32_t answer = registry_enter_find(handle, REGISTRY_DRIVER, &row->name, NULL);
-	if (answer != REGISTRY_DONE)
-		return answer;
-	answer = registry_local_acquire(handle, reference);
-	must_succeed(me, registry_exit(handle));
-	return answer;
+	stop_if(me, !is_same(&counts->interlock, interlock), "the interlock differs from the one before");
+	stop_if(me, !is_same(&counts->cv, cv), "the condition variable differs from the one before");
 }
 
 void localcount_acquire(struct localcount *lc)
 {
 	struct thread *me = begin_call(__func__);
-	struct found_row at = count_row(me, lc);
-	struct registry_local reference = {0};
+	struct counts *counts = counts_of(me, lc);
 	hold_cpu(me);
-	uint32_t answer = acquire_on(me, handle_of(me, at.bank), at.row, &reference);
-	if (answer == REGISTRY_SECTIONS_SPENT || answer == REGISTRY_LOCAL_FULL) {
-		enter_interlock();
-		answer = acquire_on(me, writers(at.bank), at.row, &reference);
-		exit_interlock();
-	}
-	stop_if(me, answer == REGISTRY_NOT_FOUND, "the count is being drained");
-	must_succeed(me, answer);
-	struct row *row = at.row;
-	pthread_mutex_lock(&row->lock);
-	if (row->count == row->room) {
-		row->room = row->room == 0 ? FIRST_ROOM : row->room * 2;
-		row->held = grow_row(me, row->held, row->room * sizeof(*row->held));
-	}
-	row->held[row->count++] = (struct held){reference, me->place};
-	pthread_mutex_unlock(&row->lock);
+	stop_if(me, is_draining(lc), "the count is being drained");
+	unsigned cpu = me->cpu->info.ci_index;
+	counts->on[cpu].count++;
+	counts->on[cpu].place = me->place;
+	__atomic_fetch_add(&counts->held, 1, __ATOMIC_RELAXED);
 	leave_cpu(me);
+}
+
+/* Gives a reference back that a drain waits for. A soft interrupt takes the interlock, too: as in the kernel it sleeps if it must. */
+static void give_up(struct thread *me, struct counts *counts, kcondvar_t *cv, kmutex_t *interlock)
+{
+	acquire_mutex(me, interlock);
+	if (--counts->left == 0)
+		wake_cv(me, cv, true);
+	release_mutex(me, interlock);
 }
 
 void localcount_release(struct localcount *lc, kcondvar_t *cv, kmutex_t *interlock)
 {
 	struct thread *me = begin_call(__func__);
-	struct registry_local reference = {0};
 	stop_if(me, has_mutex(me, interlock), "the thread has the interlock");
-	struct found_row at = count_row(me, lc);
-	pthread_mutex_lock(&at.row->lock);
-	require_same(me, at.row, cv, interlock);
-	stop_if(me, at.row->count == 0, "no reference to the count is held");
-	reference = at.row->held[--at.row->count].local;
-	pthread_mutex_unlock(&at.row->lock);
+	struct counts *counts = counts_of(me, lc);
+	require_same(me, counts, cv, interlock);
 	hold_cpu(me);
-	COMES_BEFORE(&at.row->gone);
-	uint32_t answer = registry_local_release(handle_of(me, at.bank), &reference);
+	stop_if(me, __atomic_fetch_sub(&counts->held, 1, __ATOMIC_RELAXED) <= 0, "no reference to the count is held");
+	bool draining = is_draining(lc);
+	if (!draining)
+		counts->on[me->cpu->info.ci_index].count--;
 	unhold_cpu(me);
-	if (answer == REGISTRY_COLLECTED) {
-		/* A drain waits for it. A soft interrupt takes the interlock, too: as in the kernel it sleeps if it must. */
-		acquire_mutex(me, interlock);
-		enter_interlock();
-		answer = registry_local_give_up(&at.bank->keeper, &reference);
-		exit_interlock();
-		wake_cv(me, cv, true);
-		release_mutex(me, interlock);
-	}
-	must_succeed(me, answer);
+	if (draining)
+		give_up(me, counts, cv, interlock);
 	end_call(me);
 }
 
-static void report_wait(struct thread *me, struct row *row, const struct registry_stage *met)
+static void report_wait(struct thread *me, const struct counts *counts)
 {
-	if (met->stage == REGISTRY_GRACE) {
-		report_section_wait(me, met->what);
-		return;
-	}
-	const char *place;
-	size_t count = held_count(row, &place);
-	if (count == 0)
-		report(me, "waits for a release that is under way");
+	if (counts->left == 1)
+		report(me, "waits for 1 reference, acquired%s", AT_PLACE(counts->place));
 	else
-		report(me, count == 1 ? "waits for %zu reference, acquired%s" : "waits for %zu references, one of them acquired%s", count, AT_PLACE(place));
+		report(me, "waits for %lld references, one of them acquired%s", (long long)counts->left, AT_PLACE(counts->place));
 }
 
-/* Lets others run, without the interlock: until the last release wakes it, or for a while: the end of a section wakes nobody. Whether to report the wait. */
-static bool wait_once(struct thread *me, const struct registry_stage *met, kcondvar_t *cv, kmutex_t *interlock, struct pauses *pauses)
+/* Waits for the last release, with the interlock, but not meanwhile. */
+static void await_releases(struct thread *me, const struct counts *counts, kcondvar_t *cv, kmutex_t *interlock)
 {
-	if (met->stage == REGISTRY_LOCAL) {
-		wait_for(me, cv, interlock, KUPALDIZ_LOOKS);
-		return pauses_are_over(pauses);
+	bool told = false;
+	while (counts->left != 0) {
+		if (wait_for(me, cv, interlock, told ? -1 : patience_milliseconds * 1000000) || told || counts->left == 0)
+			continue;
+		told = true;
+		report_wait(me, counts);
 	}
-	release_mutex(me, interlock);
-	bool over = pause_longer(pauses, met);
-	acquire_mutex(me, interlock);
-	return over;
 }
 
 void localcount_drain(struct localcount *lc, kcondvar_t *cv, kmutex_t *interlock)
 {
 	struct thread *me = sleepable(begin_call(__func__));
-	struct pauses pauses = begin_pauses();
-	struct registry_stage met = {0, 0};
 	stop_if(me, !has_mutex(me, interlock), "the thread does not have the interlock");
-	struct found_row at = count_row(me, lc);
-	pthread_mutex_lock(&at.row->lock);
-	require_same(me, at.row, cv, interlock);
-	pthread_mutex_unlock(&at.row->lock);
-	int waits = begin_wait();
-	retire_row(me, at, lc);
-	/* The kernel gives the interlock up while it visits each CPU, also where nobody has a reference. */
+	struct counts *counts = counts_of(me, lc);
+	require_same(me, counts, cv, interlock);
+	uint64_t live = live_at(lc);
+	stop_if(me, !__atomic_compare_exchange_n(&lc->lc_state, &live, ending_at(lc), false, __ATOMIC_SEQ_CST, __ATOMIC_SEQ_CST),
+	    "another thread waits for it already");
+	struct sleep sleep = begin_sleep(me);
+	/* The kernel, too, gives the interlock up while it visits each CPU, also where nobody has a reference. */
 	release_mutex(me, interlock);
-	sched_yield();
+	collect_counts(me, counts);
 	acquire_mutex(me, interlock);
-	while (!try_free_row(me, at, &met))
-		if (wait_once(me, &met, cv, interlock, &pauses))
-			report_wait(me, at.row, &met);
-	lc->lc_serial = 0;
-	lc->lc_row = DRAINED;
-	sweep_banks(me);
-	end_wait(waits);
+	counts->left += counts->collected;
+	await_releases(me, counts, cv, interlock);
+	forget_owner(lc);
+	free(counts);
+	lc->lc_counts = NULL;
+	__atomic_store_n(&lc->lc_state, DRAINED, __ATOMIC_RELEASE);
+	end_sleep(me, sleep);
 }
 
 uint32_t localcount_debug_refcnt(const struct localcount *lc)
 {
-	const char *place;
-	return (uint32_t)held_count(count_row(begin_plain(__func__), lc).row, &place);
+	return (uint32_t)__atomic_load_n(&counts_of(begin_plain(__func__), lc)->held, __ATOMIC_RELAXED);
 }

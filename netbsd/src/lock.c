@@ -202,11 +202,10 @@ bool pauses_are_over(struct pauses *pauses)
 	return true;
 }
 
-/* Lets others run while a wait for `met` isn't over, or for anything where that is NULL; each time for longer. Whether it is time to report the wait. */
-bool pause_longer(struct pauses *pauses, const struct registry_stage *met)
+/* Lets others run, each time for longer. Whether it is time to report the wait. */
+bool pause_longer(struct pauses *pauses)
 {
 	const struct timespec pause = {0, pauses->nanoseconds};
-	(void)met;
 	if (pauses->nanoseconds < 1000)
 		sched_yield();
 	else

@@ -214,7 +214,9 @@ void pool_cache_destroy(pool_cache_t cache)
 	require_unused(me, &cache->pool);
 	if (may_be_read(cache)) {
 		require_sleepable(me);
-		perform_all(me);
+		struct sleep sleep = begin_sleep(me);
+		await_sections(me);
+		end_sleep(me, sleep);
 	}
 	while ((head = pop_constructed(cache)) != NULL) {
 		if (cache->end != NULL)

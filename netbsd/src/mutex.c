@@ -80,22 +80,30 @@ static void restore_level(struct thread *me, int level)
 		lower_level(me, me->level_before);
 }
 
-/* Whoever has its CPU, as a soft interrupt has, gives it back while it waits for a lock that doesn't spin. */
+/* Waits for a lock that doesn't spin. Whoever has its CPU, as a soft interrupt has, gives it back meanwhile. */
+static void sleep_for_mutex(struct thread *me, kmutex_t *mutex)
+{
+	bool steps = me->holds > 0;
+	struct sleep sleep = begin_sleep(me);
+	if (steps)
+		yield_cpu(me);
+	lock_acquire(&mutex->mtx_word, me, report_wait);
+	if (steps)
+		reclaim_cpu(me);
+	end_sleep(me, sleep);
+}
+
 void acquire_mutex(struct thread *me, kmutex_t *mutex)
 {
 	require_mutex(me, mutex);
 	stop_if(me, has_mutex(me, mutex), "the thread has the lock already, taken%s", AT_PLACE(mutex->mtx_place));
-	bool steps = me->holds > 0 && !mutex->mtx_spins;
-	if (mutex->mtx_spins)
+	if (mutex->mtx_spins) {
 		raise_to_level_of(me, mutex);
-	else
-		require_blockable(me);
-	if (mutex->mtx_spins || !lock_tryacquire(&mutex->mtx_word, me)) {
-		if (steps)
-			yield_cpu(me);
 		lock_acquire(&mutex->mtx_word, me, report_wait);
-		if (steps)
-			reclaim_cpu(me);
+	} else {
+		require_blockable(me);
+		if (!lock_tryacquire(&mutex->mtx_word, me))
+			sleep_for_mutex(me, mutex);
 	}
 	note_acquired(me, mutex);
 }
@@ -116,7 +124,7 @@ bool has_mutex(const struct thread *me, const kmutex_t *mutex) { return lock_own
 
 void enter_mutex(struct thread *me, kmutex_t *mutex)
 {
-	if (me->softint && mutex->mtx_made == A_MUTEX && !mutex->mtx_spins && mutex->mtx_level == IPL_NONE)
+	if (STRICT() && me->softint && mutex->mtx_made == A_MUTEX && !mutex->mtx_spins && mutex->mtx_level == IPL_NONE)
 		stop(me, "in a soft interrupt, and the lock is of IPL_NONE");
 	acquire_mutex(me, mutex);
 }

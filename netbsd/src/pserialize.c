@@ -1,4 +1,4 @@
-/* pserialize.c - pserialize(9) */
+/* pserialize.c - pserialize(9): a section has its CPU */
 #include "layer.h"
 
 pserialize_t pserialize_create(void)
@@ -19,7 +19,6 @@ int pserialize_read_enter(void)
 	struct thread *me = begin_call(__func__);
 	if (me->depth == 0) {
 		hold_cpu(me);
-		enter_section(me);
 		__atomic_store_n(&me->entered, me->place == NULL ? "a place unknown" : me->place, __ATOMIC_RELAXED);
 	}
 	me->depth++;
@@ -34,7 +33,6 @@ void pserialize_read_exit(int s)
 	stop_if(me, s < 0 || (unsigned)s != me->depth - 1, "not the section that was entered last");
 	if (--me->depth == 0) {
 		__atomic_store_n(&me->entered, NULL, __ATOMIC_RELAXED);
-		exit_section(me);
 		unhold_cpu(me);
 	}
 	end_call(me);
@@ -43,22 +41,12 @@ void pserialize_read_exit(int s)
 void pserialize_perform(pserialize_t psz)
 {
 	struct thread *me = sleepable(begin_call(__func__));
-	int waits = begin_wait();
+	struct sleep sleep = begin_sleep(me);
 	__atomic_fetch_add(&psz->performing, 1, __ATOMIC_ACQ_REL);
-	perform_all(me);
+	await_sections(me);
 	__atomic_fetch_sub(&psz->performing, 1, __ATOMIC_ACQ_REL);
-	end_wait(waits);
+	end_sleep(me, sleep);
 }
 
 bool pserialize_in_read_section(void) { return begin_plain(__func__)->depth > 0; }
 bool pserialize_not_in_read_section(void) { return begin_plain(__func__)->depth == 0; }
-
-void report_section_wait(struct thread *me, uint64_t cpu)
-{
-	struct thread *owner = cpu < KUPALDIZ_CPUS ? lock_owner(&cpus[cpu].hold) : NULL;
-	const char *entered = owner == NULL ? NULL : __atomic_load_n(&owner->entered, __ATOMIC_RELAXED);
-	if (entered == NULL)
-		report(me, "waits for CPU %u", (unsigned)cpu);
-	else
-		report(me, "waits for CPU %u, whose thread \"%s\" is inside a read section, entered%s", (unsigned)cpu, NAME_OF(owner), AT_PLACE(entered));
-}

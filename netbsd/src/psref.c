@@ -27,17 +27,21 @@ void psref_class_destroy(struct psref_class *psref_class)
 void psref_target_init(struct psref_target *target, struct psref_class *psref_class)
 {
 	struct thread *me = begin_call(__func__);
-	attach_row(me, target, &target->prt_serial, &target->prt_row);
+	note_owner(me, target, NULL);
 	target->prt_class = psref_class;
+	__atomic_store_n(&target->prt_state, live_at(target), __ATOMIC_RELEASE);
 	__atomic_fetch_add(&psref_class->targets, 1, __ATOMIC_ACQ_REL);
 }
 
-static struct found_row target_row(const struct thread *me, const struct psref_target *target, const struct psref_class *psref_class)
+static bool is_ending(const struct psref_target *target)
 {
-	struct found_row found;
-	stop_if(me, !find_row(target, target->prt_serial, target->prt_row, &found), "the target is not live");
+	return __atomic_load_n(&target->prt_state, __ATOMIC_ACQUIRE) == ending_at(target);
+}
+
+static void require_target(const struct thread *me, const struct psref_target *target, const struct psref_class *psref_class)
+{
+	stop_if(me, __atomic_load_n(&target->prt_state, __ATOMIC_ACQUIRE) != live_at(target) && !is_ending(target), "the target is not live");
 	stop_if(me, target->prt_class != psref_class, "the target is not of class %s", psref_class->name);
-	return found;
 }
 
 /* ---- The table of a CPU's references. The thread has the CPU. ---- */
@@ -80,8 +84,8 @@ static void extend(struct thread *me)
 	cpu->first_free = before;
 }
 
-/* Notes a reference that the registry's CPU `via` counts, in the table and in its holder's storage. */
-static void note_reference(struct thread *me, struct psref *psref, const struct psref_target *target, uint32_t via)
+/* Notes a reference in the table and in its holder's storage. */
+static void note_reference(struct thread *me, struct psref *psref, const struct psref_target *target)
 {
 	struct cpu *cpu = me->cpu;
 	if (cpu->room == 0 || cpu->first_free == NOTHING)
@@ -89,9 +93,8 @@ static void note_reference(struct thread *me, struct psref *psref, const struct 
 	uint32_t place = cpu->first_free;
 	struct reference *reference = &cpu->references[place];
 	cpu->first_free = reference->next;
-	*reference = (struct reference){psref, target, me->place, me, ++cpu->serial, via, NOTHING};
+	*reference = (struct reference){psref, target, me->place, me, ++cpu->serial, NOTHING};
 	add_to_chain(cpu, place);
-	cpu->counted_elsewhere += via == WRITERS;
 	*psref = (struct psref){target, cpu->serial, place, cpu->info.ci_index};
 	me->references++;
 }
@@ -111,7 +114,6 @@ static struct reference *own_reference(const struct thread *me, const struct psr
 static void forget_reference(struct thread *me, struct reference *reference)
 {
 	struct cpu *cpu = me->cpu;
-	cpu->counted_elsewhere -= reference->via == WRITERS;
 	uint32_t place = (uint32_t)(reference - cpu->references), *link = chain_of(cpu, reference->psref);
 	while (*link != place)
 		link = &cpu->references[*link].next;
@@ -126,57 +128,15 @@ static void require_bound(const struct thread *me)
 	stop_if(me, !is_bound(me) && me->preemptions == 0, "the thread is not bound to a CPU");
 }
 
-/* A call with the registry's CPU that counts: this thread's, or the writers', under the interlock. */
-static struct registry_cpu *begin_count(struct thread *me, struct found_row at, uint32_t via)
-{
-	if (via != WRITERS)
-		return handle_of(me, at.bank);
-	enter_interlock();
-	return writers(at.bank);
-}
-
-static void end_count(uint32_t via)
-{
-	if (via == WRITERS)
-		exit_interlock();
-}
-
-/* Has such a CPU count one reference more to the entry of a row. One that counts some counts one more of them, also of an entry that nobody finds. */
-static uint32_t count_one(struct thread *me, struct found_row at, uint32_t via, bool is_copy)
-{
-	struct registry_cpu *cpu = begin_count(me, at, via);
-	uint32_t answer = is_copy ? registry_copy(cpu, at.row->number) : REGISTRY_NOT_HELD;
-	if (answer == REGISTRY_NOT_HELD)
-		answer = registry_get(cpu, REGISTRY_DRIVER, &at.row->name, NULL);
-	end_count(via);
-	return answer;
-}
-
-/* Counts one more reference to the entry of a row by a CPU of the registry's, or by the other one of this thread's and the writers'. Which one. */
-static uint32_t count_more(struct thread *me, struct found_row at, uint32_t via, bool is_copy)
-{
-	uint32_t other = via == WRITERS ? me->cpu->info.ci_index : WRITERS, answer = count_one(me, at, via, is_copy);
-	/* This CPU can count no more. */
-	if (answer == REGISTRY_SECTIONS_SPENT || answer == REGISTRY_PASSIVE_FULL) {
-		uint32_t second = count_one(me, at, other, is_copy);
-		if (second == REGISTRY_DONE)
-			return other;
-		/* A copy of one that is being destroyed is right. */
-		answer = is_copy ? answer : second;
-	}
-	stop_if(me, answer == REGISTRY_NOT_FOUND, "the target is being destroyed");
-	must_succeed(me, answer);
-	return via;
-}
-
 void psref_acquire(struct psref *psref, const struct psref_target *target, struct psref_class *psref_class)
 {
 	struct thread *me = begin_call(__func__);
 	require_bound(me);
-	struct found_row at = target_row(me, target, psref_class);
+	require_target(me, target, psref_class);
 	hold_cpu(me);
 	require_unheld(me, psref);
-	note_reference(me, psref, target, count_more(me, at, me->cpu->info.ci_index, false));
+	stop_if(me, is_ending(target), "the target is being destroyed");
+	note_reference(me, psref, target);
 	leave_cpu(me);
 }
 
@@ -186,16 +146,11 @@ void psref_release(struct psref *psref, const struct psref_target *target, struc
 	hold_cpu(me);
 	struct reference *reference = own_reference(me, psref);
 	stop_if(me, psref->psref_target != target, "the reference is to another target");
-	struct found_row at = target_row(me, target, psref_class);
-	uint64_t number = at.row->number;
-	uint32_t via = reference->via;
-	/* Once it is released its target may be gone, and this row another's. */
+	require_target(me, target, psref_class);
 	psref->psref_target = NULL;
 	forget_reference(me, reference);
-	COMES_BEFORE(&at.row->gone);
-	uint32_t answer = registry_release(begin_count(me, at, via), number);
-	end_count(via);
-	must_succeed(me, answer);
+	if (is_ending(target))
+		tell_release(target);
 	leave_cpu(me);
 }
 
@@ -203,15 +158,15 @@ void psref_copy(struct psref *to, const struct psref *from, struct psref_class *
 {
 	struct thread *me = begin_call(__func__);
 	hold_cpu(me);
-	struct reference *reference = own_reference(me, from);
+	(void)own_reference(me, from);
 	require_unheld(me, to);
-	struct found_row at = target_row(me, from->psref_target, psref_class);
-	note_reference(me, to, from->psref_target, count_more(me, at, reference->via, true));
+	require_target(me, from->psref_target, psref_class);
+	note_reference(me, to, from->psref_target);
 	leave_cpu(me);
 }
 
-/* The first reference of this CPU's to a target, of one thread or of all; NULL where there is none. */
-static const struct reference *find_reference(const struct cpu *cpu, const struct psref_target *target, const struct thread *of)
+/* The first reference of a CPU's to a target, of one thread or of all; NULL where there is none. The caller has that CPU. */
+const struct reference *find_reference(const struct cpu *cpu, const struct psref_target *target, const struct thread *of)
 {
 	for (uint32_t place = 0; place < cpu->room; place++) {
 		const struct reference *found = &cpu->references[place];
@@ -224,93 +179,54 @@ static const struct reference *find_reference(const struct cpu *cpu, const struc
 bool psref_held(const struct psref_target *target, struct psref_class *psref_class)
 {
 	struct thread *me = begin_call(__func__);
-	bool held = false;
 	require_bound(me);
-	struct found_row at = target_row(me, target, psref_class);
+	require_target(me, target, psref_class);
 	hold_cpu(me);
-	must_succeed(me, registry_held(handle_of(me, at.bank), at.row->number, &held));
-	if (!held && me->cpu->counted_elsewhere > 0)
-		held = find_reference(me->cpu, target, NULL) != NULL;
+	bool held = find_reference(me->cpu, target, NULL) != NULL;
 	leave_cpu(me);
 	return held;
+}
+
+/* Stops where the thread itself has a reference, which nobody else could release. */
+static void require_unreferring(struct thread *me, const struct psref_target *target)
+{
+	if (me->references == 0)
+		return;
+	hold_cpu(me);
+	const struct reference *found = find_reference(me->cpu, target, me);
+	stop_if(me, found != NULL, "this thread has a reference to the target, acquired%s", AT_PLACE(found->place));
+	unhold_cpu(me);
 }
 
 void psref_target_destroy(struct psref_target *target, struct psref_class *psref_class)
 {
 	struct thread *me = sleepable(begin_call(__func__));
-	struct pauses pauses = begin_pauses();
-	struct registry_stage met = {0, 0};
-	struct found_row at = target_row(me, target, psref_class);
-	if (me->references > 0) {
-		hold_cpu(me);
-		/* Nobody else could release it. */
-		const struct reference *found = find_reference(me->cpu, target, me);
-		stop_if(me, found != NULL, "this thread has a reference to the target, acquired%s", AT_PLACE(found->place));
-		unhold_cpu(me);
-	}
-	int waits = begin_wait();
-	retire_row(me, at, target);
-	while (!try_free_row(me, at, &met)) {
-		if (!pause_longer(&pauses, &met))
-			continue;
-		if (met.stage == REGISTRY_GRACE)
-			report_section_wait(me, met.what);
-		else
-			report_reference_wait(me, met.what, target);
-	}
-	/* A section may have released the last reference and still follow the links of what the target lies in. */
-	perform_all(me);
+	require_target(me, target, psref_class);
+	require_unreferring(me, target);
+	uint64_t live = live_at(target);
+	stop_if(me, !__atomic_compare_exchange_n(&target->prt_state, &live, ending_at(target), false, __ATOMIC_SEQ_CST, __ATOMIC_SEQ_CST),
+	    "another thread waits for it already");
+	struct sleep sleep = begin_sleep(me);
+	await_unreferenced(me, target);
+	forget_owner(target);
 	target->prt_class = NULL;
-	target->prt_serial = 0;
+	__atomic_store_n(&target->prt_state, 0, __ATOMIC_RELEASE);
 	__atomic_fetch_sub(&psref_class->targets, 1, __ATOMIC_ACQ_REL);
-	sweep_banks(me);
-	end_wait(waits);
+	end_sleep(me, sleep);
 }
 
-/* What a CPU's table says of a target. Whether it says something. The caller has that CPU. */
-static bool describe(const struct cpu *cpu, const struct psref_target *target, char *text, size_t room)
+/* Says which thread has the first of a CPU's references to a target, if there is one, and how many it has. The caller has that CPU. */
+void report_references(struct thread *me, const struct cpu *cpu, const struct psref_target *target)
 {
-	unsigned count = 0;
+	unsigned count = 0, number = cpu->info.ci_index;
 	const struct reference *first = find_reference(cpu, target, NULL);
 	if (first == NULL)
-		return false;
+		return;
 	for (uint32_t place = 0; place < cpu->room; place++)
 		count += cpu->references[place].psref != NULL && cpu->references[place].target == target && cpu->references[place].thread == first->thread;
 	if (count == 1)
-		snprintf(text, room, ", whose thread \"%s\" holds one reference, acquired%s", NAME_OF(first->thread), AT_PLACE(first->place));
+		report(me, "waits for CPU %u, whose thread \"%s\" holds one reference, acquired%s", number, NAME_OF(first->thread), AT_PLACE(first->place));
 	else
-		snprintf(text, room, ", whose thread \"%s\" holds %u references, one of them acquired%s", NAME_OF(first->thread), count,
+		report(me, "waits for CPU %u, whose thread \"%s\" holds %u references, one of them acquired%s", number, NAME_OF(first->thread), count,
 		    AT_PLACE(first->place));
-	return true;
-}
-
-static bool try_hold_cpu(struct thread *me, struct cpu *cpu)
-{
-	const struct timespec moment = {0, 1000000};
-	for (unsigned turn = 0; turn < 100; turn++) {
-		if (lock_tryacquire(&cpu->hold, me))
-			return true;
-		nanosleep(&moment, NULL);
-	}
-	return false;
-}
-
-/* Says whose reference a wait waits for. That of the writers' CPU may be in any table. */
-void report_reference_wait(struct thread *me, uint64_t of, const struct psref_target *target)
-{
-	char text[400] = ", which holds a reference";
-	unsigned first = of == WRITERS ? 0 : (unsigned)of, last = of == WRITERS ? KUPALDIZ_CPUS - 1 : (unsigned)of;
-	bool found = false;
-	for (unsigned cpu = first; cpu <= last && !found; cpu++) {
-		if (!try_hold_cpu(me, &cpus[cpu]))
-			continue;
-		found = describe(&cpus[cpu], target, text, sizeof(text));
-		lock_release(&cpus[cpu].hold, me);
-		if (found)
-			of = cpu;
-	}
-	if (of == WRITERS)
-		report(me, "waits for a reference");
-	else
-		report(me, "waits for CPU %u%s", (unsigned)of, text);
 }

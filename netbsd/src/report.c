@@ -33,16 +33,9 @@ void report(const struct thread *me, const char *format, ...)
 	write_line(me->call, NULL, reason);
 }
 
-struct timespec patience(void) { return time_after(KUPALDIZ_PATIENCE * INT64_C(1000000)); }
+int64_t patience_milliseconds = KUPALDIZ_PATIENCE;
 
-void must_succeed(const struct thread *me, uint32_t answer)
-{
-	char text[128];
-	if (answer == REGISTRY_DONE)
-		return;
-	registry_text(answer, text, sizeof(text));
-	stop(me, "%s", text);
-}
+struct timespec patience(void) { return time_after(patience_milliseconds * 1000000); }
 
 /* What a thread is called: the system's name of it, as it is now. The caller isn't cancelled meanwhile. */
 const char *name_of(const struct thread *thread, char *text, size_t room)
@@ -84,8 +77,8 @@ void require_sleepable(const struct thread *me)
 	stop_if(me, me->depth > 0, "inside a read section, entered%s", AT_PLACE(me->entered));
 	stop_if(me, me->softint, "in a soft interrupt");
 	stop_if(me, me->spins > 0, "with a spin lock");
-	stop_if(me, me->level > IPL_NONE, "at a raised level");
-	stop_if(me, me->holds > 0, "with preemption disabled");
+	stop_if(me, me->level > IPL_NONE && !LOWERS_LEVEL(), "at a raised level");
+	stop_if(me, me->holds > (me->level > IPL_NONE), "with preemption disabled");
 }
 
 void *grow_row(const struct thread *me, void *row, size_t size)

@@ -59,9 +59,9 @@ void rw_enter(krwlock_t *rw, const krw_t how)
 		return;
 	}
 	bool steps = me->holds > 0, told = false;
+	struct sleep sleep = begin_sleep(me);
 	if (steps)
 		yield_cpu(me);
-	int waits = begin_wait();
 	struct timespec tells = patience();
 	rw->rw_wanted += how == RW_WRITER;
 	while (!rw_tryacquire(me, rw, how)) {
@@ -71,10 +71,10 @@ void rw_enter(krwlock_t *rw, const krw_t how)
 		tells = patience();
 	}
 	rw->rw_wanted -= how == RW_WRITER;
-	end_wait(waits);
 	sleepq_unlock(sleepq_of(rw));
 	if (steps)
 		reclaim_cpu(me);
+	end_sleep(me, sleep);
 }
 
 int rw_tryenter(krwlock_t *rw, const krw_t how)

@@ -168,7 +168,7 @@ void softint_disestablish(void *cookie)
 {
 	struct thread *me = sleepable(begin_call(__func__));
 	struct softint *softint = cookie, **at = &softints;
-	int waits = begin_wait();
+	struct sleep sleep = begin_sleep(me);
 	pthread_mutex_lock(&pending_list);
 	require_established(me, softint);
 	softint->dead = true;
@@ -179,7 +179,7 @@ void softint_disestablish(void *cookie)
 	struct pauses pauses = begin_pauses();
 	while (softint->running > 0) {
 		pthread_mutex_unlock(&pending_list);
-		if (pause_longer(&pauses, NULL))
+		if (pause_longer(&pauses))
 			report(me, "waits for its handler");
 		pthread_mutex_lock(&pending_list);
 	}
@@ -187,6 +187,6 @@ void softint_disestablish(void *cookie)
 		at = &(*at)->next;
 	*at = softint->next;
 	pthread_mutex_unlock(&pending_list);
-	end_wait(waits);
+	end_sleep(me, sleep);
 	free(softint);
 }

@@ -1,7 +1,7 @@
 /* thread.c - threads, their binding, and the CPUs that they share */
 #include "layer.h"
 
-const char KUPALDIZ_NAMED(REGISTRY_BUILT_FOR, KUPALDIZ_CPUS) = 0;
+const char KUPALDIZ_BUILT_FOR(KUPALDIZ_CPUS) = 0;
 struct cpu cpus[KUPALDIZ_CPUS];
 _Thread_local struct thread *kupaldiz_self;
 _Thread_local struct places kupaldiz_places;
@@ -40,14 +40,13 @@ static void note_fork(void)
 
 static void open_layer(void)
 {
-	struct thread nobody = {.call = "registry_open"};
+	struct thread nobody = {.call = "kupaldiz_netbsd"};
 	for (unsigned cpu = 0; cpu < KUPALDIZ_CPUS; cpu++)
 		cpus[cpu].info.ci_index = cpu;
 	if (pthread_key_create(&ending, end_thread) != 0)
 		stop(&nobody, "no key of a thread is left");
 	if (pthread_atfork(NULL, NULL, note_fork) != 0)
 		stop(&nobody, "out of memory");
-	open_banks(&nobody);
 }
 
 void init_cond(pthread_cond_t *cond)

@@ -28,15 +28,19 @@ static void run_on(struct thread *me, struct cpu *cpu, unsigned flags, xcfunc_t 
 uint64_t xc_unicast(unsigned flags, xcfunc_t body, void *arg_a, void *arg_b, struct cpu_info *cpu)
 {
 	struct thread *me = sleepable(begin_plain(__func__));
+	struct sleep sleep = begin_sleep(me);
 	run_on(me, &cpus[cpu->ci_index], flags, body, arg_a, arg_b);
+	end_sleep(me, sleep);
 	return __atomic_add_fetch(&tickets, 1, __ATOMIC_RELAXED);
 }
 
 uint64_t xc_broadcast(unsigned flags, xcfunc_t body, void *arg_a, void *arg_b)
 {
 	struct thread *me = sleepable(begin_call(__func__));
+	struct sleep sleep = begin_sleep(me);
 	for (unsigned cpu = 0; cpu < KUPALDIZ_CPUS; cpu++)
 		run_on(me, &cpus[cpu], flags, body, arg_a, arg_b);
+	end_sleep(me, sleep);
 	return __atomic_add_fetch(&tickets, 1, __ATOMIC_RELAXED);
 }
 
@@ -48,6 +52,9 @@ void xc_wait(uint64_t ticket)
 
 void xc_barrier(unsigned flags)
 {
+	struct thread *me = sleepable(begin_call(__func__));
 	(void)flags;
-	visit_cpus(sleepable(begin_call(__func__)));
+	struct sleep sleep = begin_sleep(me);
+	visit_cpus(me);
+	end_sleep(me, sleep);
 }

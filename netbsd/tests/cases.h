@@ -2,7 +2,7 @@
  * cases.h - a test's table of cases: what each does, and the line on standard error that it ends with
  *
  * STOPS(line, ..) is a case whose process ends by abort(3) after its line, WAITS(line, ..) one that ends well. What is a place there, FILE:NUMBER, is PLACE
- * in the line. start_thread and end_thread are declared before this file is included: those of test.h, or those of the bench.
+ * in the line. start_thread and end_thread are declared before this file is included: those of test.h, or those of the explorer.
  */
 #ifndef NETBSD_CASES_H
 #define NETBSD_CASES_H

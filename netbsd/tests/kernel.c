@@ -1,4 +1,4 @@
-/* kernel - the calls beside the three pages. It is compiled as a driver's file is, and the bench runs it too: explorer/tests/named.c. */
+/* kernel - the calls beside the three pages. It is compiled as a driver's file is, and the explorer runs it too: explorer/tests/named.c. */
 #include <sys/param.h>
 #include <sys/atomic.h>
 #include <sys/container_of.h>
@@ -401,7 +401,7 @@ static void (*const kernel_tests[])(void) = {
 	test_threads, test_queue, test_queues, test_time, test_copies, test_hooks,
 };
 
-#ifndef KUPALDIZ_BENCH
+#ifndef KUPALDIZ_EXPLORER
 int main(void)
 {
 	for (unsigned at = 0; at < __arraycount(kernel_tests); at++)

@@ -47,12 +47,10 @@ static void open_without(enum lack what)
 
 HANDLER(nothing, (void)0)
 
-/* ---- The first call of a process, and of a thread. What the registry returns is said by its text. ---- */
+/* ---- The first call of a process, and of a thread. ---- */
 
-STOPS("registry_open: no key of a thread is left", lacks = KEY; kupaldiz_bind(0))
-STOPS("registry_open: out of memory", lacks = AT_FORK; kupaldiz_bind(0))
-STOPS("registry_open: out of memory", lacks = ALIGNED; kupaldiz_bind(0))
-STOPS("registry_open: out of memory", lacks = MALLOC; kupaldiz_bind(0))
+STOPS("kupaldiz_netbsd: no key of a thread is left", lacks = KEY; kupaldiz_bind(0))
+STOPS("kupaldiz_netbsd: out of memory", lacks = AT_FORK; kupaldiz_bind(0))
 THREAD(bind_without_memory, lacks = CALLOC; kupaldiz_bind(1))
 STOPS("kupaldiz_bind: out of memory, at PLACE", open_without(NOTHING_LACKS); on_thread(bind_without_memory))
 THREAD(bind_without_value, lacks = VALUE; kupaldiz_bind(1))
@@ -60,7 +58,12 @@ STOPS("kupaldiz_bind: out of memory, at PLACE", open_without(NOTHING_LACKS); on_
 
 STOPS("psref_class_create: out of memory", open_without(CALLOC); psref_class_create("other", IPL_NONE))
 STOPS("psref_acquire: out of memory, at PLACE", struct psref psref; open_without(REALLOC); psref_acquire(&psref, &target, things))
-STOPS("localcount_acquire: out of memory, at PLACE", open_without(REALLOC); localcount_acquire(&count))
+STOPS("localcount_init: out of memory, at PLACE", struct localcount other; open_without(ALIGNED); localcount_init(&other))
+/* The table of those that are live grows. */
+STOPS("psref_target_init: out of memory, at PLACE",
+    static struct psref_target many[100]; open_without(REALLOC);
+    for (unsigned at = 0; at < 100; at++)
+	    psref_target_init(&many[at], things))
 STOPS("kmem_alloc: out of memory, at PLACE", open_without(MALLOC); kmem_alloc(8, KM_SLEEP))
 STOPS("percpu_alloc: out of memory", open_without(ALIGNED); percpu_alloc(8))
 STOPS("softint_schedule: no thread is left, at PLACE",

@@ -169,7 +169,7 @@ static void *wait_in_order(void *of)
 		EXPECT(cv_timedwait(&cv, &lock, LONG) == EWOULDBLOCK);
 		has_left = true;
 	} else {
-		EXPECT(cv_timedwait(&cv, &lock, 1000) == 0);
+		EXPECT(cv_timedwait(&cv, &lock, 100000) == 0);
 		order = order * 10 + number;
 	}
 	mutex_exit(&lock);
@@ -231,6 +231,21 @@ static void *wait_in_crowd(void *of)
 	return of;
 }
 
+static bool is_waited_for(const kmutex_t *mutex) { return (__atomic_load_n(&mutex->mtx_word, __ATOMIC_RELAXED) & 1) != 0; }
+
+/* Each waits for its lock, and once that is free for its condition variable. */
+static void let_crowd_wait(void)
+{
+	for (unsigned i = 0; i < CROWD; i++)
+		while (!is_waited_for(&crowd[i].lock))
+			sleep_for(50);
+	for (unsigned i = 0; i < CROWD; i++)
+		mutex_exit(&crowd[i * 7 % CROWD].lock);
+	for (unsigned i = 0; i < CROWD; i++)
+		while (!cv_has_waiters(&crowd[i].cv))
+			sleep_for(50);
+}
+
 static void test_crowd(void)
 {
 	for (unsigned i = 0; i < CROWD; i++) {
@@ -239,10 +254,7 @@ static void test_crowd(void)
 		mutex_enter(&crowd[i].lock);
 		start_thread(&crowd[i].thread, wait_in_crowd, &crowd[i]);
 	}
-	sleep_for(20000);
-	for (unsigned i = 0; i < CROWD; i++)
-		mutex_exit(&crowd[i * 7 % CROWD].lock);
-	sleep_for(20000);
+	let_crowd_wait();
 	/* One goes after another: it gets its signal, and no other does. */
 	for (unsigned i = 0; i < CROWD; i++) {
 		struct member *member = &crowd[i * 3 % CROWD];
@@ -254,6 +266,58 @@ static void test_crowd(void)
 		cv_destroy(&member->cv);
 		mutex_destroy(&member->lock);
 	}
+}
+
+/* ---- The kernel lock, which is given up by whoever sleeps; tsleep(9) and once(9). ---- */
+
+static void *add_kernel_locked(void *arg)
+{
+	for (unsigned turn = 0; turn < TURNS; turn++) {
+		KERNEL_LOCK(1 + (int)turn % 2, NULL);
+		unsigned before = plain;
+		if (turn % 500 == 0)
+			(void)kpause("locks", false, 1, NULL);
+		else
+			EXPECT(plain == before);
+		plain++;
+		KERNEL_UNLOCK_ALL(NULL, NULL);
+	}
+	return arg;
+}
+
+static atomic_bool asleep;
+static once_t once;
+static int count_once(void) { (void)kpause("once", false, 1, NULL); plain++; return 7; }
+
+THREAD(run_it_once, EXPECT(RUN_ONCE(&once, count_once) == 7))
+THREAD(lock_both, KERNEL_LOCK(2, NULL); mutex_enter(&lock); EXPECT(KERNEL_LOCKED_P()); mutex_exit(&lock); KERNEL_UNLOCK_ALL(NULL, NULL))
+THREAD(sleep_locked,
+    KERNEL_LOCK(1, NULL); atomic_store(&asleep, true); EXPECT(tsleep(&plain, PRI_NONE, "locks", 0) == 0 && KERNEL_LOCKED_P()); KERNEL_UNLOCK_LAST(NULL))
+
+static void test_kernel_lock(void)
+{
+	pthread_t thread;
+	plain = 0;
+	run_all(add_kernel_locked);
+	EXPECT(plain == THREADS * TURNS);
+	run_all(run_it_once);
+	EXPECT(plain == THREADS * TURNS + 1);
+	/* It waits for this lock, and has given the kernel lock up. */
+	mutex_enter(&lock);
+	start_thread(&thread, lock_both, NULL);
+	while (!is_waited_for(&lock))
+		sleep_for(50);
+	KERNEL_LOCK(1, NULL);
+	mutex_exit(&lock);
+	KERNEL_UNLOCK_ONE(NULL);
+	end_thread(thread);
+	/* It can't miss the wakeup: it has the kernel lock until it sleeps. */
+	start_thread(&thread, sleep_locked, NULL);
+	await_flag(&asleep);
+	KERNEL_LOCK(1, NULL);
+	wakeup(&plain);
+	KERNEL_UNLOCK_ONE(NULL);
+	end_thread(thread);
 }
 
 int main(void)
@@ -269,6 +333,7 @@ int main(void)
 	test_order(2, 134);
 	test_order(3, 124);
 	test_crowd();
+	test_kernel_lock();
 	cv_destroy(&other_cv);
 	EXPECT(cv_is_valid(&cv) && !cv_is_valid(&other_cv));
 	rw_destroy(&rw);

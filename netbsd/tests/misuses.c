@@ -2,8 +2,6 @@
 #include "stops.h"
 #include "things.h"
 
-enum { ROWS = 32 };	/* of a registry, as layer.h has it */
-
 static struct psref_target other;
 static struct psref psref, second, third;
 static struct localcount other_count;
@@ -214,15 +212,8 @@ STOPS("psref_release: the reference is to another target, at PLACE",
 STOPS("psref_copy: the reference is not held, at PLACE", psref_copy(&second, &psref, things))
 STOPS("psref_acquire: the target is not live, at PLACE", psref_target_destroy(&target, things); acquire())
 STOPS("psref_acquire: the target is not live, at PLACE", struct psref_target copied = target; psref_acquire(&psref, &copied, things))
-/* The bytes of its life before. */
-STOPS("psref_acquire: the target is not live, at PLACE",
-    struct psref_target before = target; psref_target_destroy(&target, things); psref_target_init(&target, things); target = before;
-    psref_acquire(&psref, &target, things))
-/* Bytes of anything name a row far beyond any registry; the first row of one that isn't there; and a count's. */
+/* Bytes of anything. */
 STOPS("psref_acquire: the target is not live, at PLACE", memset(&target, 0xa5, sizeof(target)); psref_acquire(&psref, &target, things))
-STOPS("psref_acquire: the target is not live, at PLACE",
-    other.prt_serial = target.prt_serial; other.prt_row = ROWS; psref_acquire(&psref, &other, things))
-STOPS("psref_acquire: the target is not live, at PLACE", target.prt_row = count.lc_row; psref_acquire(&psref, &target, things))
 /* A thread destroys the target and waits for a reference of CPU 0, which goes on acquiring. */
 STOPS("psref_acquire: the target is being destroyed, at PLACE",
     acquire(); start_alone(destroy_target);
@@ -236,11 +227,13 @@ STOPS("psref_target_destroy: this thread has a reference to the target, acquired
 /* It is live, and the only one. Its bytes are gone. */
 STOPS("psref_target_init: it is live already, at PLACE",
     drain_count(); localcount_fini(&count); memset(&target, 0, sizeof(target)); psref_target_init(&target, things))
-/* More are live than a registry takes. The last one's bytes are gone. */
+/* Many are live, and some are gone. The last one's bytes are gone. */
 STOPS("psref_target_init: it is live already, at PLACE",
-    static struct psref_target many[ROWS + 8]; const unsigned last = sizeof(many) / sizeof(many[0]) - 1;
+    static struct psref_target many[200]; const unsigned last = sizeof(many) / sizeof(many[0]) - 1;
     for (unsigned at = 0; at <= last; at++)
 	    psref_target_init(&many[at], things);
+    for (unsigned at = 0; at < last; at += 2)
+	    psref_target_destroy(&many[at], things);
     memset(&many[last], 0, sizeof(many[last])); psref_target_init(&many[last], things))
 STOPS("psref_acquire: the target is not of class other, at PLACE",
     struct psref_class *others = psref_class_create("other", IPL_NONE); pserialize_read_enter(); psref_acquire(&psref, &target, others))
@@ -277,8 +270,6 @@ STOPS("localcount_drain: the interlock differs from the one before, at PLACE",
     count_in(); count_out(); mutex_enter(&wrong_lock); localcount_drain(&count, &cv, &wrong_lock))
 STOPS("localcount_fini: the count is not drained, at PLACE", localcount_fini(&other_count))
 STOPS("localcount_fini: the count is not drained, at PLACE", drain_count(); localcount_fini(&count); localcount_fini(&count))
-/* The bytes say that it was drained, while it is live: that is what a drain leaves there. */
-STOPS("localcount_fini: the count is not drained, at PLACE", count.lc_row = 1; localcount_fini(&count))
 STOPS("localcount_acquire: the count is not live, at PLACE", drain_count(); count_in())
 /* A drain waits for a reference of this thread's, which goes on acquiring. */
 STOPS("localcount_acquire: the count is being drained, at PLACE",
@@ -324,6 +315,15 @@ STOPS("mutex_enter: inside a read section, entered at the first call, at the thi
     read_at("the first call"); read_at("the second call"); enter_at("the third call"))
 STOPS("xc_barrier: inside a read section, entered at the second call, at the third call",
     read_at("the first call"); pserialize_read_exit(0); read_at("the second call"); kupaldiz_at("the third call"); (xc_barrier)(0))
+
+/* ---- The kernel lock, and ticks. ---- */
+
+STOPS("KERNEL_UNLOCK: the thread does not have the kernel lock so often, at PLACE", KERNEL_LOCK(1, NULL); KERNEL_UNLOCK_ONE(NULL); KERNEL_UNLOCK_ONE(NULL))
+STOPS("KERNEL_UNLOCK: the thread has the kernel lock more often, at PLACE", KERNEL_LOCK(2, NULL); KERNEL_UNLOCK_LAST(NULL))
+STOPS("KERNEL_LOCK: inside a read section, entered at PLACE, at PLACE", pserialize_read_enter(); KERNEL_LOCK(1, NULL))
+THREAD(end_kernel_locked, KERNEL_LOCK(1, NULL))
+STOPS("pthread_exit: with a lock", on_thread(end_kernel_locked))
+STOPS("kupaldiz_set_hz: no number of ticks a second, at PLACE", kupaldiz_set_hz(0))
 
 /* ---- condvar(9). ---- */
 
@@ -487,6 +487,9 @@ static struct call {
 } sleepers[MOST_CALLS], users[MOST_CALLS];
 static unsigned sleepers_count, users_count;
 
+static once_t control;
+static int run_nothing_once(void) { return 0; }
+
 SLEEPS(BARE, pserialize_create, ())
 SLEEPS(PLACED, pserialize_perform, (psz))
 SLEEPS(BARE, psref_class_create, ("other", IPL_NONE))
@@ -505,6 +508,9 @@ SLEEPS(PLACED, pool_cache_get, (cache, PR_WAITOK))
 SLEEPS(BARE, percpu_alloc, (8))
 SLEEPS(PLACED, percpu_free, (percpu, 8))
 SLEEPS(PLACED, kpause, ("wait", false, 1, NULL))
+SLEEPS(PLACED, tsleep, (here, PRI_NONE, "wait", 1))
+SLEEPS(PLACED, mtsleep, (here, PRI_NONE, "wait", 1, &softlock))
+SLEEPS(PLACED, RUN_ONCE, (&control, run_nothing_once))
 SLEEPS(BARE, kthread_create, (PRI_NONE, 0, NULL, nothing, NULL, NULL, "worker"))
 SLEEPS(PLACED, kthread_join, (curlwp))
 SLEEPS(PLACED, copyin, (here, there, sizeof(there)))

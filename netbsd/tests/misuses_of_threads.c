@@ -105,9 +105,17 @@ STOPS("kthread_join: no thread that was made with KTHREAD_MUSTJOIN, at the secon
 static void *cookie;
 static atomic_bool runs;
 HANDLER(run_long, atomic_store(&runs, true); sleep_for(20000000))
-static void run_on_4(void)
+/* Schedules itself, which takes no other CPU. */
+HANDLER(run_again,
+    atomic_store(&runs, true);
+    for (;;) {
+	    softint_schedule(cookie);
+	    sleep_for(100);
+    })
+
+static void run_on_4(void (*handler)(void *))
 {
-	cookie = softint_establish(SOFTINT_NET, run_long, NULL);
+	cookie = softint_establish(SOFTINT_NET, handler, NULL);
 	kupaldiz_unbind();
 	kupaldiz_bind(4);
 	softint_schedule(cookie);
@@ -115,14 +123,9 @@ static void run_on_4(void)
 	await_flag(&runs);
 }
 THREAD(end_softint, softint_disestablish(cookie))
-STOPS("softint_schedule: the soft interrupt is not established, at PLACE",
-    pthread_t ender; run_on_4(); start_thread(&ender, end_softint, NULL);
-    for (;;) {
-	    softint_schedule(cookie);
-	    sleep_for(100);
-    })
+STOPS("softint_schedule: the soft interrupt is not established, at PLACE", run_on_4(run_again); on_thread(end_softint))
 STOPS("softint_disestablish: the soft interrupt is not established, at PLACE",
-    pthread_t ender; run_on_4(); start_thread(&ender, end_softint, NULL); on_thread(end_softint))
+    pthread_t ender; run_on_4(run_long); start_thread(&ender, end_softint, NULL); on_thread(end_softint))
 
 /* The same while the thread for its handler begins. */
 HANDLER(run_never, (void)0)

@@ -5,6 +5,7 @@
  * returns. An object's words are plain memory, so that the thread sanitizer, too, judges the order between the last use and the free.
  */
 #include "test.h"
+#include "random.h"
 #include "things.h"
 
 enum { THREADS = 10, OBJECTS = 6, MOST_HELD = 5, HANDED = 24, LIVE = 0x600d, FREED = 0xdead };
@@ -35,13 +36,7 @@ static atomic_uint copies, interrupts;
 static unsigned steps;
 static void *cookies[SOFTINT_SERIAL + 1];
 
-static unsigned below(struct actor *actor, unsigned bound)
-{
-	actor->random ^= actor->random << 13;
-	actor->random ^= actor->random >> 7;
-	actor->random ^= actor->random << 17;
-	return (unsigned)((actor->random >> 11) % bound);
-}
+static unsigned below(struct actor *actor, unsigned bound) { return random_below(&actor->random, bound); }
 
 static void judge(const struct object *object) { EXPECT(object->state == LIVE && object->place < OBJECTS); }
 
@@ -285,7 +280,8 @@ static void *act(void *of)
 {
 	struct actor *actor = of;
 	int bound = curlwp_bind();
-	for (unsigned turn = 0; turn < steps; turn++) {
+	/* On a busy machine the others may begin late. */
+	for (unsigned turn = 0; turn < steps || atomic_load(&copies) == 0 || atomic_load(&interrupts) == 0; turn++) {
 		step(actor);
 		if (actor->number % 2 == 0 && below(actor, 8) == 0) {
 			release_all(actor);
@@ -325,7 +321,7 @@ static void begin(uint64_t seed)
 		atomic_store(&objects[i], new_object(i));
 	for (unsigned i = 0; i < THREADS; i++) {
 		actors[i].number = i;
-		actors[i].random = seed * 2654435761u + i * 40503u + 1;
+		actors[i].random = random_of(seed, i);
 	}
 }
 
@@ -344,7 +340,6 @@ int main(int argc, char **argv)
 	end_all(&actors[0]);
 	mutex_destroy(&writer_lock);
 	end_things();
-	EXPECT(atomic_load(&copies) > 0 && atomic_load(&interrupts) > 0);
 	printf("%u copies, %u soft interrupts: as the model says\n", atomic_load(&copies), atomic_load(&interrupts));
 	return 0;
 }

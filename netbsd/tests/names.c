@@ -1,19 +1,35 @@
-/* names - the names of names.txt that are no calls. It is compiled as a driver's file is, and the bench runs it too: explorer/tests/named.c. */
+/* names - the names of names.txt that are no calls. It is compiled as a driver's file is, and the explorer runs it too: explorer/tests/named.c. */
 #include <sys/cdefs.h>
 __KERNEL_RCSID(0, "$NetBSD$");
 
 #include <sys/param.h>
 #include <sys/systm.h>
 #include <sys/atomic.h>
+#include <sys/bus.h>
+#include <sys/compat_stub.h>
+#include <sys/conf.h>
 #include <sys/container_of.h>
+#include <sys/cprng.h>
+#include <sys/device.h>
 #include <sys/evcnt.h>
+#include <sys/hash.h>
+#include <sys/interrupt.h>
 #include <sys/kernel.h>
 #include <sys/kthread.h>
+#include <sys/mbuf.h>
 #include <sys/module.h>
+#include <sys/once.h>
+#include <sys/pcq.h>
 #include <sys/pslist.h>
 #include <sys/queue.h>
+#include <sys/rbtree.h>
+#include <sys/socketvar.h>
+#include <sys/sysctl.h>
+#include <sys/syslog.h>
 
 #include "test.h"
+
+#include <sys/malloc.h>
 
 /* All operations on a word of one type. It holds 5 at first. */
 #define TEST_ATOMICS(type, add, add_nv, inc, inc_nv, dec, dec_nv, and, and_nv, or, or_nv, swap, cas, cas_ni) \
@@ -317,6 +333,101 @@ static void test_numbers(void)
 	EXPECT(MIN(2, 3) == 2 && MAX(2, 3) == 3 && uimin(2, 3) == 2 && uimax(2, 3) == 3 && ulmin(2, 3) == 2 && lmax(-2, 3) == 3);
 	EXPECT(roundup(9, 4) == 12 && rounddown(9, 4) == 8 && roundup2(9, 8) == 16 && rounddown2(15, 8) == 8 && powerof2(64) && !powerof2(65));
 	EXPECT(mstohz(21) == 3 && hztoms(3) == 30 && nullop(NULL) == 0);
+	EXPECT(hash32_buf("ab", 2, HASH32_BUF_INIT) == hash32_str("ab", HASH32_STR_INIT) && hash32_str("", 7) == 7);
+	EXPECT(cprng_fast32() != cprng_fast32() && cprng_strong64() != cprng_fast64() && cprng_strong32() != cprng_strong32());
+}
+
+/* A queue of three items, which goes round. */
+static void test_pcq(void)
+{
+	int items[3];
+	pcq_t *pcq = pcq_create(3, KM_SLEEP);
+	EXPECT(pcq_maxitems(pcq) == 3 && pcq_get(pcq) == NULL && pcq_peek(pcq) == NULL);
+	for (unsigned turn = 0; turn < 6; turn++) {
+		for (unsigned at = 0; at < 3; at++)
+			EXPECT(pcq_put(pcq, &items[at]));
+		EXPECT(!pcq_put(pcq, &items[0]) && pcq_peek(pcq) == &items[0]);
+		for (unsigned at = 0; at < 3; at++)
+			EXPECT(pcq_get(pcq) == &items[at]);
+		EXPECT(pcq_get(pcq) == NULL && pcq_put(pcq, &items[1]) && pcq_get(pcq) == &items[1]);
+	}
+	pcq_destroy(pcq);
+}
+
+static void test_hash_tables(void)
+{
+	unsigned long mask = 0;
+	LIST_HEAD(, named) *lists = hashinit(5, HASH_LIST, true, &mask);
+	EXPECT(mask == 7 && LIST_EMPTY(&lists[7]));
+	hashdone(lists, HASH_LIST, mask);
+	TAILQ_HEAD(, named) *queues = hashinit(2, HASH_TAILQ, false, &mask);
+	EXPECT(mask == 1 && TAILQ_EMPTY(&queues[1]) && queues[1].tqh_last == &queues[1].tqh_first);
+	hashdone(queues, HASH_TAILQ, mask);
+}
+
+/* What a chain has is freed, and counted. */
+static void test_mbufs(void)
+{
+	unsigned before = kupaldiz_mbufs;
+	struct mbuf *first = m_gethdr(M_DONTWAIT, MT_HEADER);
+	first->m_next = m_get(M_WAIT, MT_DATA);
+	first->m_len = 3;
+	first->m_next->m_len = 4;
+	*mtod(first, char *) = 'a';
+	EXPECT(m_length(first) == 7 && first->m_dat[0] == 'a' && (first->m_flags & M_PKTHDR) != 0 && kupaldiz_mbufs == before + 2);
+	m_freem(m_free(first));
+	EXPECT(kupaldiz_mbufs == before);
+}
+
+static unsigned once_runs;
+static int run_it(void) { once_runs++; return ENXIO; }
+
+static void test_once(void)
+{
+	static ONCE_DECL(control);
+	const once_t *const ran = &control;
+	EXPECT(RUN_ONCE(&control, run_it) == ENXIO && RUN_ONCE(&control, run_it) == ENXIO && once_runs == 1 && ran->o_error == ENXIO);
+}
+
+/* It nests, and is given up by whoever sleeps; the words of NET_MPSAFE take it as well. */
+static void test_kernel_lock(void)
+{
+	int held = 0;
+	KERNEL_LOCK(2, NULL);
+	KERNEL_LOCK_UNLESS_NET_MPSAFE();
+	EXPECT(KERNEL_LOCKED_P());
+	KERNEL_UNLOCK_UNLESS_NET_MPSAFE();
+	KERNEL_UNLOCK_ALL(NULL, &held);
+	EXPECT(held == 2 && !KERNEL_LOCKED_P());
+	SOFTNET_KERNEL_LOCK_UNLESS_NET_MPSAFE();
+	EXPECT(KERNEL_LOCKED_P() && mutex_owned(softnet_lock));
+	SOFTNET_KERNEL_UNLOCK_UNLESS_NET_MPSAFE();
+	KERNEL_LOCK(1, NULL);
+	EXPECT(tsleep(&held, PRI_NONE | PCATCH, "names", 1) != 0 && KERNEL_LOCKED_P());
+	mutex_enter(softnet_lock);
+	(void)mtsleep(&held, PRI_NONE | PNORELOCK, "names", 1, softnet_lock);
+	EXPECT(!mutex_owned(softnet_lock) && KERNEL_LOCKED_P());
+	KERNEL_LOCK(1, NULL);
+	KERNEL_UNLOCK_ONE(NULL);
+	KERNEL_UNLOCK_LAST(NULL);
+	wakeup(&held);
+	SOFTNET_LOCK_UNLESS_NET_MPSAFE();
+	SOFTNET_UNLOCK_UNLESS_NET_MPSAFE();
+}
+
+static void test_device(void)
+{
+	struct device wm0 = {"wm0", &once_runs, 0};
+	const device_t device = &wm0;
+	char *text = malloc(8, M_TEMP, M_WAITOK | M_ZERO);
+	EXPECT(strcmp(device_xname(device), "wm0") == 0 && device_private(device) == &once_runs && device_unit(device) == 0);
+	EXPECT(text != NULL && text[7] == 0 && D_MPSAFE != D_OTHER && makedev(3, 4) != makedev(3, 5));
+	free(text, M_TEMP);
+	log(LOG_DEBUG, "%s", "");
+	aprint_normal("%s", "");
+	aprint_verbose("%s", "");
+	aprint_debug("%s", "");
+	aprint_error("%s", "");
 }
 
 static void test_names(void)
@@ -333,9 +444,15 @@ static void test_names(void)
 	test_module();
 	test_words();
 	test_numbers();
+	test_pcq();
+	test_hash_tables();
+	test_mbufs();
+	test_once();
+	test_kernel_lock();
+	test_device();
 }
 
-#ifndef KUPALDIZ_BENCH
+#ifndef KUPALDIZ_EXPLORER
 int main(void)
 {
 	test_names();

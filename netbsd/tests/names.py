@@ -4,7 +4,7 @@
     names.py COMPILER..    the last line is 'N passed, M failed'
 
 For each header one file is compiled, as a kernel's is, that includes this header alone and names each of its names: for the layer, and with
--DKUPALDIZ_BENCH for the bench. Then each name must be in one of the tests or the drivers.
+-DKUPALDIZ_EXPLORER for the explorer. Then each name must be in one of the tests or the drivers.
 """
 import re
 import subprocess
@@ -47,7 +47,7 @@ def judge(compiler, of_header):
     """How many names are declared, and how many aren't."""
     passed = failed = 0
     for header, names in of_header.items():
-        for words in ([], ["-DKUPALDIZ_BENCH"]):
+        for words in ([], ["-DKUPALDIZ_EXPLORER"]):
             if compiles(compiler, header, names, *words)[0]:
                 passed += len(names)
                 continue

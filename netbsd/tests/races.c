@@ -1,13 +1,11 @@
 /*
- * races - what orders the threads that have passive references, as the detector of races sees it: the CPU that two share, and the release that a destroy
- * waits for. They wait for each other by steps that order nothing, over registries of four rows, forty changes and two thousand references.
+ * races - what orders the threads that have references, as the detector of races sees it: the CPU that two share, the release that a destroy waits for, the
+ * part of a count that a drain adds, and a section that a perform waits for. They wait for each other by steps that order nothing.
  */
 #include "test.h"
 #include "things.h"
 
-enum { FULL = KUPALDIZ_REFERENCES, ROWS = KUPALDIZ_ROWS, CHANGES = KUPALDIZ_CHANGES };
-
-static struct psref_target other, last;
+static struct psref_target other;
 static atomic_uint step;
 static unsigned used;	/* plain */
 
@@ -31,69 +29,70 @@ static void *refer_first(void *arg)
 	return arg;
 }
 
-/* psref_held looks into the table of its CPU while the thread has that CPU. It asks for a reference that is counted elsewhere, as its CPU is full, and looks at
- * the place of the other thread's first, which that one writes afterwards. */
+/* psref_held looks into the table of its CPU while the thread has that CPU. */
 static void test_asked(void)
 {
-	static struct psref psrefs[FULL + 1];
 	pthread_t thread;
 	kupaldiz_bind(3);
 	start_thread(&thread, refer_first, NULL);
 	await_step(1);
-	for (unsigned i = 0; i <= FULL; i++)
-		psref_acquire(&psrefs[i], &target, things);
-	for (unsigned i = 0; i < FULL; i++)
-		psref_release(&psrefs[i], &target, things);
-	EXPECT(psref_held(&target, things));
+	EXPECT(!psref_held(&target, things));
 	take_step();
 	end_thread(thread);
-	psref_release(&psrefs[FULL], &target, things);
 	kupaldiz_unbind();
+	atomic_store_explicit(&step, 0, memory_order_relaxed);
 }
 
-/* Uses what its reference keeps until its release, and does nothing else then that orders it. */
-static void *use(void *arg)
-{
-	struct psref psref;
-	kupaldiz_bind(4);
-	psref_acquire(&psref, &last, things);
-	take_step();
-	used++;
-	psref_release(&psref, &last, things);
-	await_step(4);
-	return arg;
-}
-
-/* What came before the last release is over when the destroy returns. The target is the only one in a registry that is used up, which the destroy opens anew:
- * so the release has returned, too. The other registries are full. */
-static void test_destroyed(void)
-{
-	static struct psref_target full[ROWS + 1], passing;
-	pthread_t thread;
-	for (unsigned i = 0; i <= ROWS; i++)
-		psref_target_init(&full[i], things);
-	psref_target_init(&last, things);
-	for (unsigned i = 0; i < CHANGES; i++) {
-		psref_target_init(&passing, things);
-		psref_target_destroy(&passing, things);
+/* Uses what it keeps until the last step, and does nothing else then that orders it. */
+#define USER(name, begin, end) \
+	static void *name(void *arg) \
+	{ \
+		struct psref psref = {0}; \
+		int s = 0; \
+		kupaldiz_bind(4); \
+		begin; \
+		take_step(); \
+		used++; \
+		end; \
+		await_step(2); \
+		(void)psref; \
+		(void)s; \
+		return arg; \
 	}
-	start_thread(&thread, use, NULL);
-	await_step(3);
-	psref_target_destroy(&last, things);
+
+USER(use_referred, psref_acquire(&psref, &target, things), psref_release(&psref, &target, things))
+USER(use_counted, localcount_acquire(&count), localcount_release(&count, &cv, &lock))
+USER(use_read, s = pserialize_read_enter(), pserialize_read_exit(s))
+
+/* What came before the end of the use is over when the wait returns. */
+static void test_waited(void *(*user)(void *), void (*wait)(void))
+{
+	pthread_t thread;
+	used = 0;
+	start_thread(&thread, user, NULL);
+	await_step(1);
+	wait();
 	used++;
 	take_step();
 	end_thread(thread);
 	EXPECT(used == 2);
-	for (unsigned i = 0; i <= ROWS; i++)
-		psref_target_destroy(&full[i], things);
+	atomic_store_explicit(&step, 0, memory_order_relaxed);
 }
+
+static void wait_for_references(void) { psref_target_destroy(&target, things); psref_target_init(&target, things); }
+static void wait_for_counts(void) { drain(&count); localcount_fini(&count); localcount_init(&count); }
+static void wait_for_sections(void) { pserialize_perform(psz); }
 
 int main(void)
 {
 	make_things(IPL_NONE);
 	psref_target_init(&other, things);
 	test_asked();
-	test_destroyed();
+	for (unsigned turn = 0; turn < 100; turn++) {
+		test_waited(use_referred, wait_for_references);
+		test_waited(use_counted, wait_for_counts);
+		test_waited(use_read, wait_for_sections);
+	}
 	psref_target_destroy(&other, things);
 	end_things();
 	puts("no thread met what another one was writing");

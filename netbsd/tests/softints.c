@@ -2,6 +2,8 @@
 #include "test.h"
 #include "things.h"
 
+#include "src/layer.h"
+
 static kmutex_t spin;
 static atomic_uint runs, waits;
 static atomic_int ran_on;
@@ -142,7 +144,7 @@ static void test_blocked_inside(void)
 		EXPECT(atomic_load(&done) == 0);
 	}
 	splx(level);
-	for (unsigned turn = 0; turn < 20000 && atomic_load(&done) == 0; turn++) {
+	while (atomic_load(&done) == 0) {
 		sleep_for(100);
 		pserialize_read_exit(pserialize_read_enter());
 	}
@@ -154,6 +156,24 @@ static void test_blocked_inside(void)
 static krwlock_t rw;
 static atomic_bool holds;
 
+/* Until another thread waits for the lock whose word this is, and has given its CPU up. */
+static void await_waiter(const uintptr_t *word)
+{
+	while ((__atomic_load_n(word, __ATOMIC_RELAXED) & 1) == 0)
+		sleep_for(50);
+}
+
+static void await_reader(void)
+{
+	bool has_waiter = false;
+	while (!has_waiter) {
+		sleep_for(50);
+		sleepq_lock(sleepq_of(&rw));
+		has_waiter = sleepq_has_waiter(sleepq_of(&rw), &rw);
+		sleepq_unlock(sleepq_of(&rw));
+	}
+}
+
 /* Has both locks until it was in a section of the CPU whose level another thread has raised. */
 static void *hold_both(void *arg)
 {
@@ -161,10 +181,10 @@ static void *hold_both(void *arg)
 	mutex_enter(&lock);
 	rw_enter(&rw, RW_WRITER);
 	atomic_store(&holds, true);
-	sleep_for(3000);
+	await_waiter(&lock.mtx_word);
 	pserialize_read_exit(pserialize_read_enter());
 	mutex_exit(&lock);
-	sleep_for(3000);
+	await_reader();
 	pserialize_read_exit(pserialize_read_enter());
 	rw_exit(&rw);
 	return arg;
@@ -234,28 +254,19 @@ OFFERS(splx, (void)0, splx(splsoftserial()), (void)0)
 OFFERS(kpreempt_enable, (void)0, kpreempt_disable(); kpreempt_enable(), (void)0)
 OFFERS(percpu_putref, (void)0, (void)percpu_getref(percpu); percpu_putref(percpu), (void)0)
 
-/* Whether a callout that is due runs by the end of the call, and not before it. */
-static bool offers_cpu(const struct offer *offer)
+/* A callout that is due runs by the end of the call, and not before it. */
+static void test_offer(const struct offer *offer)
 {
+	int s = pserialize_read_enter();
 	atomic_store(&fired, false);
 	offer->before();
 	callout_reset(&callout, 1, fire, NULL);
-	sleep_for(20000);
+	while (!is_interrupted(kupaldiz_self))
+		sleep_for(100);
 	bool early = atomic_load(&fired);
 	offer->call();
 	bool offered = !early && atomic_load(&fired);
 	offer->after();
-	return offered;
-}
-
-/* The clock may be late: it has some turns. */
-static void test_offer(const struct offer *offer)
-{
-	bool offered = false;
-	int s = pserialize_read_enter();
-	for (unsigned turn = 0; turn < 50 && !offered; turn++)
-		offered = offers_cpu(offer);
-	callout_stop(&callout);
 	pserialize_read_exit(s);
 	if (!offered)
 		fprintf(stderr, "%s offers the CPU to nobody\n", offer->name);

@@ -1,12 +1,11 @@
 /*
- * tells - a wait that lasts names who it waits for, once, by one line; a count that is full stops: over a layer of little patience and low limits. What is
- * waited for ends once the line was written: the linker leads write here (--wrap), open, and what acquires and releases a local reference in the archive.
+ * tells - a wait that lasts says who it waits for, once, by one line: over a layer of little patience. What is waited for ends once the line was written: the
+ * linker leads write here (--wrap), and open.
  */
 #include <sys/prctl.h>
 
 #include "stops.h"
 
-#include "registry.h"
 #include "wraps.h"
 
 #include "things.h"
@@ -33,7 +32,7 @@ static int64_t milliseconds(void)
 
 static void await(atomic_bool *what)
 {
-	for (unsigned turn = 0; turn < 10000 && !atomic_load(what); turn++)
+	for (unsigned turn = 0; turn < 60000 && !atomic_load(what); turn++)
 		sleep_for(1000);
 	EXPECT(atomic_load(what));
 }
@@ -44,25 +43,13 @@ static void keep(void)
 	int64_t began = milliseconds();
 	atomic_store(&ready, true);
 	await(&told);
-	EXPECT(milliseconds() - began > KUPALDIZ_PATIENCE / 2);
+	EXPECT(milliseconds() - began > patience_milliseconds / 2);
 	sleep_for(20000);
 }
 
-static atomic_bool lasts, lasts_inside;
-
-#define LASTS(call, flag) \
-	uint32_t __real_##call(struct registry_cpu *cpu, struct registry_local *reference); \
-	uint32_t __wrap_##call(struct registry_cpu *cpu, struct registry_local *reference) \
-	{ \
-		if (atomic_load(flag)) \
-			keep(); \
-		return __real_##call(cpu, reference); \
-	}
-LASTS(registry_local_acquire, &lasts_inside)
-LASTS(registry_local_release, &lasts)
-
 static void begin(void)
 {
+	patience_milliseconds = 300;
 	make_things(IPL_NONE);
 	mutex_init(&spin, MUTEX_DEFAULT, IPL_VM);
 	rw_init(&rw);
@@ -100,11 +87,6 @@ WAITS("pserialize_read_enter: " FOR_READER,
 static void look_where(void *arg, void *other) { EXPECT(arg == NULL && other == NULL && cpu_number() < KUPALDIZ_CPUS); }
 WAITS("xc_broadcast: " FOR_READER, BESIDE("reader", read_long, xc_wait(xc_broadcast(0, look_where, NULL, NULL))))
 WAITS("xc_broadcast: " FOR_READER, BESIDE("reader", read_long, xc_wait(xc_broadcast(XC_HIGHPRI, look_where, NULL, NULL))))
-/* The section is a call's own, and nobody has entered it by name. It was inside a section before, and isn't any more. */
-HOLDER(acquire_long,
-    pserialize_read_exit(pserialize_read_enter()); atomic_store(&lasts_inside, true); localcount_acquire(&count); release_count())
-WAITS("pserialize_perform: waits for CPU 3", BESIDE("acquirer", acquire_long, pserialize_perform(psz)))
-
 static struct psref first, second;
 
 HOLDER(refer_long, psref_acquire(&first, &target, things); keep(); psref_release(&first, &target, things))
@@ -120,10 +102,6 @@ HOLDER(count_long, localcount_acquire(&count); keep(); release_count())
 WAITS("localcount_drain: waits for 1 reference, acquired at PLACE", BESIDE("open", count_long, drain(&count)))
 HOLDER(count_twice, localcount_acquire(&count); localcount_acquire(&count); keep(); release_count(); release_count())
 WAITS("localcount_drain: waits for 2 references, one of them acquired at PLACE", BESIDE("open", count_twice, drain(&count)))
-/* The reference isn't noted any more, and not released yet. */
-HOLDER(release_long, localcount_acquire(&count); atomic_store(&lasts, true); release_count())
-WAITS("localcount_drain: waits for a release that is under way", BESIDE("close", release_long, drain(&count)))
-
 HOLDER(lock_long, mutex_enter(&lock); keep(); mutex_exit(&lock))
 WAITS("mutex_enter: waits for the lock that thread \"detach\" took at PLACE", BESIDE("detach", lock_long, mutex_enter(&lock); mutex_exit(&lock)))
 HOLDER(write_long, rw_enter(&rw, RW_WRITER); keep(); rw_exit(&rw))
@@ -175,11 +153,11 @@ int __wrap_open(const char *path, int how, ...)
 	return __real_open(path, how);
 }
 
-/* A thread on a CPU. It may have a reference to the target, which may be counted elsewhere; and until the line is there its CPU: now and then, or always. */
+/* A thread on a CPU. It may have a reference to the target; and until the line is there its CPU: now and then, or always. */
 struct holder {
 	const char *name;
 	unsigned cpu;
-	enum { NONE, ITS_OWN, ELSEWHERE } counted;
+	bool refers;
 	enum { FREES, LETS_GO, KEEPS } cpu_is;
 	pthread_t thread;
 	atomic_bool holds;
@@ -187,37 +165,38 @@ struct holder {
 
 static struct psref_target next;
 
-/* Only the last one is counted elsewhere, since the CPU counts as many as it may. A reference to another target is none. */
+/* Has the CPU for a while, or until the line is there. */
+static void have_cpu(struct holder *holder)
+{
+	kpreempt_disable();
+	atomic_store(&holder->holds, true);
+	do
+		sleep_for(8000);
+	while (holder->cpu_is == KEEPS && !atomic_load(&told));
+	/* Nobody took the CPU away meanwhile. */
+	EXPECT(has_cpu(holder->cpu));
+	kpreempt_enable();
+}
+
+/* A reference to another target is none. */
 static void *hold_one(void *of)
 {
 	struct holder *holder = of;
-	struct psref other;
-	unsigned beside = holder->counted == ELSEWHERE ? KUPALDIZ_REFERENCES : 0;
-	struct psref *held = calloc(beside + 1, sizeof(*held));
+	struct psref other, held;
 	prctl(PR_SET_NAME, holder->name);
 	kupaldiz_bind(holder->cpu);
 	psref_acquire(&other, &next, things);
-	for (unsigned i = 0; holder->counted != NONE && i <= beside; i++)
-		psref_acquire(&held[i], &target, things);
-	for (unsigned i = 0; i < beside; i++)
-		psref_release(&held[i], &target, things);
+	if (holder->refers)
+		psref_acquire(&held, &target, things);
 	while (holder->cpu_is != FREES && !atomic_load(&told)) {
-		kpreempt_disable();
-		atomic_store(&holder->holds, true);
-		do
-			sleep_for(8000);
-		while (holder->cpu_is == KEEPS && !atomic_load(&told));
-		/* Nobody took the CPU away meanwhile. */
-		EXPECT(has_cpu(holder->cpu));
-		kpreempt_enable();
+		have_cpu(holder);
 		sleep_for(2000);
 	}
 	atomic_store(&holder->holds, true);
 	await(&told);
-	if (holder->counted != NONE)
-		psref_release(&held[beside], &target, things);
+	if (holder->refers)
+		psref_release(&held, &target, things);
 	psref_release(&other, &next, things);
-	free(held);
 	return of;
 }
 
@@ -238,73 +217,21 @@ static void destroy_beside(struct holder *holders, unsigned all)
 	destroy_beside(holders, sizeof(holders) / sizeof(holders[0]))
 #define HOLDS_ONE(cpu, name)	"psref_target_destroy: waits for CPU " cpu ", whose thread \"" name "\" holds one reference, acquired at PLACE"
 
-WAITS(HOLDS_ONE("0", "first"), looked_at = 0; HOLDERS({.name = "first", .cpu = 0, .counted = ELSEWHERE}))
+WAITS(HOLDS_ONE("0", "first"), looked_at = 0; HOLDERS({.name = "first", .cpu = 0, .refers = true}))
 /* What another thread has with the same CPU isn't its own. */
-WAITS(HOLDS_ONE("2", "one"), HOLDERS({.name = "one", .cpu = 2, .counted = ITS_OWN}, {.name = "two", .cpu = 2, .counted = ITS_OWN}))
-/* A CPU before it is another thread's all the time. */
+WAITS(HOLDS_ONE("2", "one"), HOLDERS({.name = "one", .cpu = 2, .refers = true}, {.name = "two", .cpu = 2, .refers = true}))
+/* The one who has none doesn't matter. */
 static char of_last[160];
-WAITS(of_last,
-    looked_at = LAST; HOLDERS({.name = "last", .cpu = LAST, .counted = ELSEWHERE}, {.name = "keeper", .cpu = 0, .cpu_is = KEEPS}))
-/* Whoever has the reference has its CPU, too. */
-WAITS("psref_target_destroy: waits for CPU 3, which holds a reference",
-    HOLDERS({.name = "kept", .cpu = 3, .counted = ITS_OWN, .cpu_is = KEEPS}, {.name = "other", .cpu = 4, .counted = ITS_OWN}))
-WAITS("psref_target_destroy: waits for a reference", HOLDERS({.name = "kept", .cpu = 3, .counted = ELSEWHERE, .cpu_is = KEEPS}))
+WAITS(of_last, looked_at = LAST; HOLDERS({.name = "none", .cpu = 0}, {.name = "last", .cpu = LAST, .refers = true}))
+/* A CPU is another thread's all the time. The line about references isn't due any more then. */
+WAITS("psref_target_destroy: waits for CPU 3, whose thread \"kept\" keeps it", HOLDERS({.name = "kept", .cpu = 3, .cpu_is = KEEPS}))
 /* The CPU is free now and then. */
-WAITS(HOLDS_ONE("3", "lets_go"), looked_at = 3; HOLDERS({.name = "lets_go", .cpu = 3, .counted = ITS_OWN, .cpu_is = LETS_GO}))
-
-/* ---- What the layer can't count any more stops with its line: a hundred registries of four rows, two thousand references of a CPU to one entry. ---- */
-
-/* The writers' CPU counts as many as any other one. */
-enum { REFERENCES = 2 * KUPALDIZ_REFERENCES, LIVE = KUPALDIZ_BANKS * KUPALDIZ_ROWS };
-
-static struct psref psrefs[REFERENCES + 1];
-
-static void refer(unsigned references)
-{
-	kupaldiz_bind(1);
-	for (unsigned i = 0; i < references; i++)
-		psref_acquire(&psrefs[i], &target, things);
-}
-
-static void release(unsigned references)
-{
-	for (unsigned i = 0; i < references; i++)
-		psref_release(&psrefs[i], &target, things);
-}
-
-/* A copy is counted where the first one is, else by the other CPU, unless the target is being destroyed. */
-#define PASSIVE_FULL	": this CPU has as many passive references to the entry as it may, at PLACE"
-STOPS("psref_acquire" PASSIVE_FULL, refer(REFERENCES); EXPECT(psref_held(&target, things)); psref_acquire(&psrefs[REFERENCES], &target, things))
-STOPS("psref_copy" PASSIVE_FULL, refer(REFERENCES); psref_copy(&psrefs[REFERENCES], &psrefs[REFERENCES - 1], things))
-STOPS("psref_copy" PASSIVE_FULL, refer(REFERENCES); psref_copy(&psrefs[REFERENCES], &psrefs[0], things))
-STOPS("panic: both were copied, at PLACE",
-    refer(KUPALDIZ_REFERENCES); psref_copy(&psrefs[REFERENCES], &psrefs[0], things); psref_copy(&psrefs[REFERENCES - 1], &psrefs[REFERENCES], things);
-    release(KUPALDIZ_REFERENCES); EXPECT(psref_held(&target, things)); psref_release(&psrefs[REFERENCES], &target, things);
-    EXPECT(psref_held(&target, things)); psref_release(&psrefs[REFERENCES - 1], &target, things); EXPECT(!psref_held(&target, things));
-    panic("both were copied"))
-STOPS("panic: this CPU counts the copy, at PLACE",
-    refer(REFERENCES); psref_release(&psrefs[0], &target, things); psref_copy(&psrefs[0], &psrefs[REFERENCES - 1], things); release(REFERENCES);
-    EXPECT(!psref_held(&target, things)); panic("this CPU counts the copy"))
-THREAD(destroy_target, psref_target_destroy(&target, things))
-STOPS("psref_copy" PASSIVE_FULL,
-    pthread_t destroyer; refer(KUPALDIZ_REFERENCES); start_thread(&destroyer, destroy_target, NULL); sleep_for(20000);
-    psref_copy(&psrefs[REFERENCES], &psrefs[0], things))
-STOPS("localcount_acquire: this CPU's net count of local references to the entry is at its limit, at PLACE",
-    for (unsigned i = 0; i < REFERENCES; i++)
-	    localcount_acquire(&count);
-    EXPECT(localcount_debug_refcnt(&count) == REFERENCES); localcount_acquire(&count))
-
-/* The target and the count are live, too. */
-static char live_line[96];
-STOPS(live_line,
-    static struct psref_target many[LIVE - 1];
-    for (unsigned i = 0; i < LIVE - 2; i++)
-	    psref_target_init(&many[i], things);
-    kupaldiz_at("the last call"); (psref_target_init)(&many[LIVE - 2], things))
+WAITS(HOLDS_ONE("3", "lets_go"), looked_at = 3; HOLDERS({.name = "lets_go", .cpu = 3, .refers = true, .cpu_is = LETS_GO}))
+/* What is over two CPUs is told once. */
+WAITS(HOLDS_ONE("1", "one"), HOLDERS({.name = "one", .cpu = 1, .refers = true}, {.name = "two", .cpu = 2, .refers = true}))
 
 int main(void)
 {
-	snprintf(live_line, sizeof(live_line), "psref_target_init: %d targets and counts are live, at the last call", LIVE);
 	snprintf(of_last, sizeof(of_last), HOLDS_ONE("%d", "last"), LAST);
 	return run_cases(begin);
 }

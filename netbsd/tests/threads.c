@@ -3,6 +3,7 @@
  * their object, or are passed. The linker leads pthread_mutex_unlock here (--wrap).
  */
 #include "test.h"
+#include "asleep.h"
 
 #include "wraps.h"
 #include "things.h"
@@ -160,7 +161,9 @@ static void *hold_all(void *arg)
 	atomic_store(&ready, true);
 	await_flag(&over);
 	pserialize_read_exit(s);
+	mutex_enter(&own_lock);
 	cv_broadcast(&own_cv);
+	mutex_exit(&own_lock);
 	mutex_exit(&lock);
 	rw_exit(&rw);
 	localcount_release(&count, &cv, &lock);
@@ -191,9 +194,10 @@ IN(destroy, psref_target_destroy(&target, things); psref_target_init(&target, th
 IN(drain, drain(&count); localcount_fini(&count); localcount_init(&count))
 IN(mutex, mutex_enter(&lock); mutex_exit(&lock))
 IN(rwlock, rw_enter(&rw, RW_READER); rw_exit(&rw))
-/* The lock of its own, which nobody else has; the holder's broadcast wakes it. */
-IN(cv_wait, mutex_enter(&own_lock); cv_wait(&own_cv, &own_lock); mutex_exit(&own_lock))
-IN(cv_timedwait, mutex_enter(&own_lock); EXPECT(cv_timedwait(&own_cv, &own_lock, 1000) == 0); mutex_exit(&own_lock))
+/* The holder's broadcast wakes it. */
+IN(cv_wait, mutex_enter(&own_lock); while (!atomic_load(&over)) cv_wait(&own_cv, &own_lock); mutex_exit(&own_lock))
+IN(cv_timedwait,
+    mutex_enter(&own_lock); while (!atomic_load(&over)) EXPECT(cv_timedwait(&own_cv, &own_lock, 100000) == 0); mutex_exit(&own_lock))
 IN(section, curlwp_bindx(curlwp_bind()); kupaldiz_bind(5); pserialize_read_exit(pserialize_read_enter()))
 IN(percpu, percpu_t *percpu = percpu_alloc(8); kupaldiz_bind(5); (void)percpu_getref(percpu); percpu_putref(percpu); percpu_free(percpu, 8))
 IN(barrier, xc_barrier(0))
@@ -209,9 +213,13 @@ IN(softint, void *cookie = softint_establish(SOFTINT_NET, run_until_over, NULL);
 IN(callout, static callout_t callout; kupaldiz_bind(4); callout_init(&callout, CALLOUT_MPSAFE); callout_reset(&callout, 1, run_until_over, NULL); await_runs();
     callout_halt(&callout, NULL); callout_destroy(&callout))
 
+static atomic_int waiter_id;	/* the system's */
+
 /* Makes one of the calls once it was cancelled: the call ends as without, and then the thread does. */
 static void *wait_in(void *of)
 {
+	EXPECT(curlwp == &kupaldiz_self->lwp);
+	atomic_store(&waiter_id, kupaldiz_self->id);
 	EXPECT(pthread_cancel(pthread_self()) == 0);
 	(*(void (**)(void))of)();
 	atomic_fetch_add(&given_back, 1);
@@ -227,10 +235,11 @@ static void test_cancelled(void (**wait)(void))
 	atomic_store(&ready, false);
 	atomic_store(&over, false);
 	atomic_store(&runs, false);
+	atomic_store(&waiter_id, 0);
 	start_thread(&holder, hold_all, NULL);
 	await_flag(&ready);
 	start_thread(&waiter, wait_in, wait);
-	sleep_for(15000);
+	await_asleep(&waiter_id, &over);
 	EXPECT(atomic_load(&given_back) == before);
 	atomic_store(&over, true);
 	EXPECT(pthread_join(waiter, &answer) == 0 && answer == PTHREAD_CANCELED);

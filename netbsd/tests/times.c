@@ -1,6 +1,8 @@
 /* times - ticks, delays, pauses and waits last as long as they say by the system's clock. A second may begin meanwhile, and signals come. */
 #include <signal.h>
 
+#include <sys/param.h>
+
 #include "test.h"
 #include "things.h"
 
@@ -21,7 +23,8 @@ static void test_ticks(void)
 	unsigned ticks = (unsigned)getticks();
 	int64_t after = now() / TICK;
 	EXPECT(ticks - (unsigned)before <= (unsigned)(after - before));
-	EXPECT(getuptime() - now() / 1000000000 <= 1);
+	int64_t earliest = now() / 1000000000, seconds = getuptime();
+	EXPECT(seconds >= earliest && seconds <= now() / 1000000000);
 }
 
 static void require_gone(int64_t from, int64_t nanoseconds)
@@ -60,11 +63,22 @@ static void test_waits(void)
 
 static void catch(int signal) { EXPECT(signal == SIGUSR1); }
 static atomic_bool begun, over;
+static bool was_free;	/* under the lock */
 
-/* Nobody has the lock meanwhile. */
-THREAD(pause_long,
-    mutex_enter(&lock); atomic_store(&begun, true); int64_t from = now(); EXPECT(kpause("times", true, 100, &lock) == EWOULDBLOCK);
-    require_gone(from, 100 * TICK); mutex_exit(&lock); atomic_store(&over, true))
+/* Nobody has the lock in a pause: another thread takes it then. */
+static void *pause_long(void *arg)
+{
+	mutex_enter(&lock);
+	atomic_store(&begun, true);
+	while (!was_free) {
+		int64_t from = now();
+		EXPECT(kpause("times", true, 100, &lock) == EWOULDBLOCK);
+		require_gone(from, 100 * TICK);
+	}
+	mutex_exit(&lock);
+	atomic_store(&over, true);
+	return arg;
+}
 
 /* A pause that signals end too early goes on with what is left: it ends though they go on coming. */
 static void test_signals(void)
@@ -75,14 +89,27 @@ static void test_signals(void)
 	start_thread(&thread, pause_long, NULL);
 	await_flag(&begun);
 	mutex_enter(&lock);
+	was_free = true;
 	mutex_exit(&lock);
-	EXPECT(!atomic_load(&over));
-	for (unsigned turn = 0; turn < 400 && !atomic_load(&over); turn++) {
+	for (int64_t from = now(); !atomic_load(&over);) {
 		sleep_for(20000);
 		(void)pthread_kill(thread, SIGUSR1);
+		require_gone(from, 0);
 	}
-	EXPECT(atomic_load(&over));
 	end_thread(thread);
+}
+
+/* A test may let time go in shorter ticks. */
+static void test_short_ticks(void)
+{
+	kupaldiz_set_hz(1000);
+	EXPECT(hz == 1000 && mstohz(5) == 5 && hztoms(7) == 7);
+	int64_t from = now();
+	EXPECT(kpause("times", false, 7, NULL) == EWOULDBLOCK);
+	require_gone(from, 7000000);
+	unsigned ticks = (unsigned)getticks();
+	int64_t after = now() / 1000000;
+	EXPECT((unsigned)after - ticks < MOST_LATE * 1000);
 }
 
 int main(void)
@@ -92,6 +119,7 @@ int main(void)
 	test_delays();
 	test_waits();
 	test_signals();
+	test_short_ticks();
 	end_things();
 	puts("ticks, delays, pauses and waits lasted as long as they say");
 	return 0;

@@ -9,8 +9,6 @@
 #include <sys/types.h>
 #include <time.h>
 
-#include "registry.h"
-
 #define WRAP(type, name, ...)	type __real_##name(__VA_ARGS__); type __wrap_##name(__VA_ARGS__)
 
 WRAP(int, pthread_mutex_unlock, pthread_mutex_t *mutex);

@@ -1,9 +1,10 @@
 //! An interface table: three CPUs send packets by an interface until a fourth takes it out.
 //!
-//! A sender looks the interface up for each packet, and keeps it while it sends, which may sleep. The fourth CPU detaches the interface and waits until
-//! nobody holds it. From then on nobody sends by it, though no sender took a lock.
+//! A sender looks the interface up for each packet, and keeps it while it sends, which may sleep.
+//! The fourth CPU detaches the interface and waits until nobody holds it. From then on nobody sends
+//! by it, though no sender took a lock.
 
-use kupaldiz::{Cpu, Found, Kind, Name, Patience, Refusal, Registry, Settings};
+use kupaldiz::{Cpu, Found, Kind, Name, Patience, Registry, RegistryError, Settings};
 use std::error::Error;
 use std::sync::atomic::{AtomicBool, AtomicU32, Ordering};
 use std::thread;
@@ -28,10 +29,12 @@ impl Wire {
     }
 }
 
+const WM0: (Kind, Name) = (Kind::Iface, Name::from_static("wm0"));
+
 /// Looks the interface up, and keeps it beyond the section while it sends. Whether it was found.
-fn send_by(cpu: &Cpu<Port>, name: &Name, wire: &Wire) -> Result<bool, Refusal> {
+fn send_by(cpu: &Cpu<Port>, wire: &Wire) -> Result<bool, RegistryError> {
     let section = cpu.enter()?;
-    let port = match section.find(Kind::Iface, name) {
+    let port = match section.find(WM0) {
         Some(found) => Found::acquire(&found)?,
         None => return Ok(false),
     };
@@ -41,31 +44,33 @@ fn send_by(cpu: &Cpu<Port>, name: &Name, wire: &Wire) -> Result<bool, Refusal> {
 }
 
 /// Takes an interface out, waits until nobody holds it, and returns what it carried.
-fn take_out(registry: &Registry<Port>, cpu: &Cpu<Port>, name: &Name) -> Result<Port, Refusal> {
-    let retired = registry.detach(cpu, Kind::Iface, name)?;
-    let freed = retired.destroy(cpu, Patience::Forever)?;
+fn take_out(cpu: &Cpu<Port>) -> Result<Port, RegistryError> {
+    let retired = cpu.detach(WM0)?;
+    let freed = retired.destroy_on(cpu, Patience::Forever)?;
     Ok(freed.value)
 }
 
 fn main() -> Result<(), Box<dyn Error>> {
-    let (wm, wm0) = (Name::parse("wm")?, Name::parse("wm0")?);
     let wire = Wire::default();
-    let (registry, mut cpus) = Registry::open(Settings::new(4, 4))?;
+    let registry = Registry::open(Settings::new(4, 4))?;
+    let mut cpus = registry.cpus();
     let fourth = cpus.remove(3);
-    registry.attach(&fourth, &wm, Port { mtu: 0 })?;
-    let driver = fourth.get_local(Kind::Driver, &wm)?;
-    registry.attach_iface(&fourth, &wm0, driver, Port { mtu: 1500 })?;
+    fourth.attach("wm", Port { mtu: 0 })?;
+    fourth.attach_iface("wm", "wm0", Port { mtu: 1500 })?;
     thread::scope(|scope| {
-        let (wire, wm0) = (&wire, &wm0);
-        let send = |cpu| scope.spawn(move || while send_by(&cpu, wm0, wire).expect("no limit is met") {});
+        let wire = &wire;
+        let send =
+            |cpu| scope.spawn(move || while send_by(&cpu, wire).expect("no limit is met") {});
         let senders: Vec<_> = cpus.into_iter().map(send).collect();
-        while wire.sent.load(Ordering::SeqCst) < 1000 && !senders.iter().all(|sender| sender.is_finished()) {
+        while wire.sent.load(Ordering::SeqCst) < 1000
+            && !senders.iter().all(|sender| sender.is_finished())
+        {
             thread::yield_now();
         }
-        let port = take_out(&registry, &fourth, wm0)?;
+        let port = take_out(&fourth)?;
         wire.gone.store(true, Ordering::SeqCst);
         assert_eq!(port.mtu, 1500);
-        Ok::<_, Refusal>(())
+        Ok::<_, RegistryError>(())
     })?;
     println!("nobody sent by wm0 once it was taken out");
     Ok(())

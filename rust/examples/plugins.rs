@@ -1,71 +1,104 @@
-//! Plug-ins that are replaced while they are in use: workers call a codec, and each old one comes back after its last call. No library is loaded or
-//! unloaded here: the codecs are values of this program.
+//! A plug-in host: a driver is a shared library, and an interface a function of it. Workers call a
+//! function while the host puts another in its place; and the library is unloaded once the last
+//! function of it has gone, whoever detaches what first.
+//!
+//! The library is libm. Its functions stand for those of a plug-in.
 
-use kupaldiz::{Cpu, Name, Patience, Refusal, Registry, Retired, Settings};
+use kupaldiz::{Kind, Patience, Registry, RegistryError, Settings};
 use std::error::Error;
+use std::ffi::{c_void, CString};
+use std::mem;
+use std::os::raw::{c_char, c_int};
 use std::sync::atomic::{AtomicBool, AtomicU32, Ordering};
 use std::thread;
 
-/// A plug-in. All callers share it.
-struct Plugin {
-    encode: Box<dyn Fn(u8) -> u8 + Send + Sync>,
-    calls: AtomicU32,
+extern "C" {
+    fn dlopen(path: *const c_char, flags: c_int) -> *mut c_void;
+    fn dlsym(library: *mut c_void, name: *const c_char) -> *mut c_void;
+    fn dlclose(library: *mut c_void) -> c_int;
 }
 
-impl Plugin {
-    fn rotating(by: u8) -> Plugin {
-        Plugin { encode: Box::new(move |byte| byte.wrapping_add(by)), calls: AtomicU32::new(0) }
+const RTLD_NOW: c_int = 2;
+static UNLOADED: AtomicBool = AtomicBool::new(false);
+
+/// The handle of a library, which is closed as this is dropped.
+struct Library(usize);
+
+impl Library {
+    fn open(path: &str) -> Result<Library, Box<dyn Error>> {
+        // SAFETY: the path ends with a zero byte, and the library's initializers do no harm.
+        let handle = unsafe { dlopen(CString::new(path)?.as_ptr(), RTLD_NOW) };
+        (!handle.is_null()).then_some(Library(handle as usize)).ok_or_else(|| "no library".into())
+    }
+
+    /// A function of the library, which may be called as long as it is open.
+    fn function(&self, name: &str) -> Result<Plugin, Box<dyn Error>> {
+        // SAFETY: the library is open, and the name ends with a zero byte.
+        let at = unsafe { dlsym(self.0 as *mut c_void, CString::new(name)?.as_ptr()) };
+        if at.is_null() {
+            return Err("no function".into());
+        }
+        // SAFETY: the functions that this program asks for take a double and return one.
+        let function = unsafe { mem::transmute::<*mut c_void, extern "C" fn(f64) -> f64>(at) };
+        Ok(Plugin::Function(function, AtomicU32::new(0)))
     }
 }
 
-const CODEC: Name = Name::from_static("codec");
-const VERSIONS: u8 = 10;
+impl Drop for Library {
+    fn drop(&mut self) {
+        // SAFETY: it is open, and no function of it is left: each was an interface on it.
+        assert_eq!(unsafe { dlclose(self.0 as *mut c_void) }, 0);
+        UNLOADED.store(true, Ordering::SeqCst);
+    }
+}
 
-/// Calls the plug-in that is loaded. Between the two steps of a replace there is none, so the lookup is repeated.
-fn work(cpu: &Cpu<Plugin>, calls: &AtomicU32, stop: &AtomicBool) {
+/// What an entry carries.
+enum Plugin {
+    /// It is kept for its drop.
+    Library(#[allow(dead_code)] Library),
+    Function(extern "C" fn(f64) -> f64, AtomicU32),
+}
+
+/// Calls the function that is there. One always is, also while it is replaced.
+fn work(host: &Registry<Plugin>, stop: &AtomicBool) -> Result<(), RegistryError> {
     while !stop.load(Ordering::Relaxed) {
-        let codec = cpu.table().get(&CODEC);
-        thread::yield_now(); // it may be unloaded meanwhile
-        if let Ok(codec) = codec {
-            assert!((codec.encode)(7) <= 7 + VERSIONS);
-            codec.calls.fetch_add(1, Ordering::Relaxed);
+        let plugin = host.get((Kind::Iface, "wave"))?;
+        thread::yield_now(); // it may be replaced meanwhile
+        if let Plugin::Function(wave, calls) = &*plugin {
+            assert!(wave(1.0).abs() <= 1.0 && !UNLOADED.load(Ordering::SeqCst));
             calls.fetch_add(1, Ordering::Relaxed);
         }
     }
-}
-
-/// Waits for the last call, and returns how many there were.
-fn unload(old: Retired<Plugin>) -> Result<u32, Refusal> {
-    Ok(old.wait(Patience::Forever)?.value.calls.into_inner())
-}
-
-/// Loads one version after the other, and returns how many calls the unloaded ones had.
-fn load_all(cpu: &Cpu<Plugin>, calls: &AtomicU32) -> Result<u32, Refusal> {
-    (1..=VERSIONS).try_fold(0, |sum, by| {
-        while calls.load(Ordering::Relaxed) < 100 * u32::from(by) {
-            thread::yield_now();
-        }
-        let (_, old) = cpu.table().replace(&CODEC, Plugin::rotating(by))?;
-        Ok(sum + unload(old)?)
-    })
+    Ok(())
 }
 
 fn main() -> Result<(), Box<dyn Error>> {
-    let (registry, mut cpus) = Registry::<Plugin>::open(Settings::new(4, 2))?;
-    let mine = cpus.pop().ok_or(Refusal::MissingCpu)?;
-    registry.attach(&mine, &CODEC, Plugin::rotating(0))?;
-    let (calls, stop) = (AtomicU32::new(0), AtomicBool::new(false));
-    let unloaded = thread::scope(|scope| {
-        let (calls, stop) = (&calls, &stop);
-        for cpu in cpus {
-            scope.spawn(move || work(&cpu, calls, stop));
-        }
-        let unloaded = load_all(&mine, calls);
+    let host = Registry::open(Settings::new(4, 4))?;
+    let library = Library::open("libm.so.6")?;
+    let functions = [library.function("sin")?, library.function("cos")?];
+    host.attach("libm", Plugin::Library(library))?;
+    let [first, second] = functions;
+    host.attach_iface("libm", "wave", first)?;
+
+    let stop = AtomicBool::new(false);
+    let replaced = thread::scope(|scope| {
+        let workers: Vec<_> = (0..3).map(|_| scope.spawn(|| work(&host, &stop))).collect();
+        thread::sleep(std::time::Duration::from_millis(5));
+        let (_, old) = host.replace_iface("libm", "wave", second)?;
+        let old = old.destroy(Patience::Forever)?.value; // nobody calls it any more
+        thread::sleep(std::time::Duration::from_millis(5));
         stop.store(true, Ordering::Relaxed);
-        unloaded
+        workers.into_iter().try_for_each(|worker| worker.join().expect("no panic"))?;
+        Ok::<_, RegistryError>(old)
     })?;
-    let last = unload(mine.table().detach(&CODEC)?)?;
-    assert_eq!(unloaded + last, calls.into_inner());
-    println!("{} plug-ins were unloaded, and no call was lost", VERSIONS + 1);
+    assert!(matches!(&replaced, Plugin::Function(_, calls) if calls.load(Ordering::Relaxed) > 0));
+
+    let library = host.detach("libm")?.destroy(Patience::Turns(1)).unwrap_err();
+    println!("the library stays: {library}");
+    drop(host.detach((Kind::Iface, "wave"))?);
+    assert!(!UNLOADED.load(Ordering::SeqCst));
+    drop(library.given.destroy(Patience::Forever)?);
+    assert!(UNLOADED.load(Ordering::SeqCst));
+    println!("a function was replaced in use, and then the library was unloaded");
     Ok(())
 }

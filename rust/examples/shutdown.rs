@@ -1,12 +1,14 @@
-//! A graceful shutdown: all entries are taken out, whoever holds one has until a deadline, and the last handle closes the registry.
+//! A graceful shutdown: all entries are taken out, whoever holds one has until a deadline, and the
+//! last handle closes the registry.
 
-use kupaldiz::{Cpu, Kind, LocalRef, Name, Patience, Refusal, Registry, Settings};
+use kupaldiz::{LocalRef, Name, Patience, Registry, Settings};
 use std::error::Error;
 use std::sync::mpsc::{channel, sync_channel, Receiver, SyncSender};
 use std::thread;
 use std::time::{Duration, Instant};
 
-const DEVICES: [Name; 3] = [Name::from_static("wm"), Name::from_static("bge"), Name::from_static("ixl")];
+const DEVICES: [Name; 3] =
+    [Name::from_static("wm"), Name::from_static("bge"), Name::from_static("ixl")];
 
 /// Writes what it has when it is dropped, as a buffer does.
 struct Device {
@@ -20,41 +22,40 @@ impl Drop for Device {
     }
 }
 
-/// Uses one device until the job ends.
-fn work(cpu: Cpu<Device>, end: &Receiver<()>) -> Result<(), Refusal> {
-    let device: LocalRef<Device> = cpu.get_local(Kind::Driver, &DEVICES[1])?;
-    drop(cpu); // the job needs none
+/// Uses a device until the job ends.
+fn work(device: LocalRef<Device>, end: &Receiver<()>) {
+    LocalRef::note_here(&device);
     let _ = end.recv();
     assert_eq!(device.name, DEVICES[1]);
-    Ok(())
 }
 
 fn main() -> Result<(), Box<dyn Error>> {
-    let (registry, mut cpus) = Registry::open_tracked(Settings::new(2, 4))?;
+    let registry = Registry::open_tracked(Settings::new(2, 4))?;
     let (written, to_write) = sync_channel(DEVICES.len());
     for name in DEVICES {
         let written = written.clone();
-        registry.attach(&cpus[0], &name, Device { written, name })?;
+        registry.attach(name, Device { written, name })?;
     }
     drop(written);
-    let (theirs, mine) = (cpus.remove(1), cpus.remove(0));
-    let (end, ended) = channel();
-    let worker = thread::Builder::new().name("job-1".to_string()).spawn(move || work(theirs, &ended))?;
-    while registry.cpu(1).is_none() {
-        thread::yield_now(); // until the job has its device
-    }
+    let (device, (end, ended)) = (registry.get(DEVICES[1])?, channel());
+    let (job, (begin, begun)) = (thread::Builder::new().name("job-1".to_string()), channel());
+    let worker = job.spawn(move || {
+        begin.send(()).expect("the program waits");
+        work(device, &ended);
+    })?;
+    begun.recv()?;
 
     let deadline = Instant::now() + Duration::from_millis(10);
-    let drained = registry.drain(&mine, Patience::Until(deadline))?;
+    let drained = registry.drain(deadline)?;
     println!("{} devices are free, and {} is held", drained.freed.len(), drained.held.len());
     let held = drained.held.into_iter().next().ok_or("nobody holds a device")?;
     assert!(held.to_string().contains("(thread \"job-1\")"), "{held}");
 
     end.send(())?; // the job is told to end
-    held.given.destroy(&mine, Patience::Forever)?;
-    worker.join().expect("it doesn't panic")?;
-    drop((drained.freed, mine));
-    let closed = registry.close(Patience::at_most(Duration::from_secs(60)));
+    held.given.destroy(Patience::Forever)?;
+    worker.join().expect("it doesn't panic");
+    drop(drained.freed);
+    let closed = registry.close(Duration::from_secs(60));
     closed.map_err(|open| open.to_string())?;
     println!("closed, and {} devices were written", to_write.iter().count());
     Ok(())

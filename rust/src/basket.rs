@@ -1,21 +1,25 @@
 //! Local references that were dropped where no CPU was at hand.
 //!
-//! A CPU alone can release a reference to a live entry, and a drop has none. So what is dropped lies in a basket, a list for each slot. A call with a CPU
-//! that finds a list filled takes it whole and releases what was in it. A turn of the work on a retired entry gives up the list of that entry.
+//! A CPU alone can release a reference to a live entry, and a drop has none. So what is dropped
+//! lies in a basket, a list for each slot. A call with a CPU that finds a list filled takes it
+//! whole and releases what was in it. A turn of the work on a retired entry gives up the list of
+//! that entry.
 
 use crate::ffi;
-use crate::lock::{locked, locked_mut, Mutex};
+use crate::lock::{locked, Mutex};
 use std::mem;
 use std::sync::atomic::{AtomicU64, Ordering};
 
-/// What was dropped that is to the entry in a slot. While a reference lies here the entry keeps its slot. On cache lines of its own.
+/// What was dropped that is to the entry in a slot. While a reference lies here the entry keeps its
+/// slot; the closing of the registry empties it. On cache lines of its own.
 #[derive(Default)]
 #[repr(align(128))]
 struct Basket {
     dropped: Mutex<Vec<ffi::Local>>,
 }
 
-/// A bit for each slot whose basket has something in it, or had a little while ago. On cache lines of its own, which each acquire and release reads.
+/// A bit for each slot whose basket has something in it, or had a little while ago. On cache lines
+/// of its own, which each acquire and release reads.
 #[derive(Default)]
 #[repr(align(128))]
 struct Filled {
@@ -30,16 +34,20 @@ pub struct Baskets {
 
 impl Baskets {
     pub fn new(slots: usize) -> Baskets {
-        Baskets { of_slot: (0..slots).map(|_| Basket::default()).collect(), filled: Filled::default() }
+        Baskets {
+            of_slot: (0..slots).map(|_| Basket::default()).collect(),
+            filled: Filled::default(),
+        }
     }
 
-    /// Lays a reference in, which is to the entry in this slot. Where there is no memory for it, it is held for good: nobody is misled.
-    pub fn lay(&self, slot: usize, mut local: ffi::Local) {
+    /// Lays a reference in. Where there is no memory for it, it is held for good: nobody is misled.
+    pub fn lay(&self, mut local: ffi::Local) {
+        let slot = local.entry.slot as usize;
         let mut dropped = locked(&self.of_slot[slot].dropped);
         if dropped.try_reserve(1).is_err() {
             drop(dropped);
             // SAFETY: this is the only use of the reference's handle. What it counts stays counted.
-            unsafe { ffi::registry_local_forget(&mut local) };
+            unsafe { ffi::kupaldiz_forget_local(&mut local) };
             return;
         }
         dropped.push(local);
@@ -57,7 +65,8 @@ impl Baskets {
         mem::take(&mut *dropped)
     }
 
-    /// Whether there is any to the entry in this slot: at least one that was dropped before, as this thread knows it.
+    /// Whether there is any to the entry in this slot: at least one that was dropped before, as
+    /// this thread knows it.
     #[inline]
     pub fn has(&self, slot: usize) -> bool {
         self.filled.words[slot / 64].load(Ordering::Relaxed) >> (slot % 64) & 1 != 0
@@ -77,16 +86,6 @@ impl Baskets {
     }
 }
 
-impl Drop for Basket {
-    /// The registry is closed, so nothing counts them any more.
-    fn drop(&mut self) {
-        for local in locked_mut(&mut self.dropped) {
-            // SAFETY: this is the last use of the reference's handle.
-            unsafe { ffi::registry_local_forget(local) };
-        }
-    }
-}
-
 #[cfg(test)]
 mod tests {
     use super::Baskets;
@@ -98,8 +97,17 @@ mod tests {
         let baskets = Baskets::new(ffi::MOST_SLOTS);
         for slot in [0, 5, ffi::MOST_SLOTS - 1] {
             assert!(!baskets.has_any());
-            (0..100).for_each(|_| baskets.lay(slot, ffi::Local::EMPTY));
-            assert!(baskets.has(slot) && !baskets.has((slot + 1) % ffi::MOST_SLOTS) && baskets.has_any());
+            let lay = |_| {
+                let mut local = ffi::Local::empty();
+                local.entry.slot = slot as u64;
+                baskets.lay(local);
+            };
+            (0..100).for_each(lay);
+            assert!(
+                baskets.has(slot)
+                    && !baskets.has((slot + 1) % ffi::MOST_SLOTS)
+                    && baskets.has_any()
+            );
             assert_eq!((baskets.slots().collect::<Vec<_>>(), baskets.total()), (vec![slot], 100));
             assert_eq!((baskets.take(slot).len(), baskets.total()), (100, 0));
         }

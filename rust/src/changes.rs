@@ -1,160 +1,270 @@
-//! The changes: attach, detach, replace.
+//! The changes: attach, detach, replace. On a CPU, or on one that the crate chooses.
 
-use crate::carried::{Carried, Record};
+use crate::carried::{Loose, Record};
 use crate::cpu::Cpu;
+use crate::error::{AttachError, DetachError, Refused};
 use crate::ffi;
-use crate::references::LocalRef;
-use crate::refusal::{AttachError, DetachError, Foreign, Refused};
 use crate::registry::Registry;
 use crate::retired::Retired;
 use crate::shared::Kept;
 use crate::values::{Entry, Freed, Kind};
-use crate::Name;
+use crate::Key;
+use std::panic::Location;
 use std::sync::Arc;
 
-/// Changes. An attach and a detach drop no `T`, so a caller may hold a lock that the drop of a `T` takes.
+/// Changes. An attach and a detach drop no `T`, so a caller may hold a lock that the drop of a `T`
+/// takes. They [may wake](crate#your-code-in-a-call) tasks. Each is on a CPU that the crate
+/// chooses, and fails first with `NoCpu`, if [there is none](Registry::cpus); a [`Cpu`] has the
+/// same calls.
 impl<T> Registry<T> {
-    /// Attaches a driver that carries this value. Lookups that begin after this call has returned find it, until it is detached.
+    /// Attaches an entry that carries this value. Lookups that begin after this call has returned
+    /// find it, until it is detached or replaced.
     ///
-    /// If no slot is vacant, the call releases the local references that were dropped, makes one turn on each retired entry, and tries again. A value that is
-    /// freed by that goes to its [`Retired`], or to the next call that [returns or drops](crate#what-is-dropped) what is freed.
+    /// If no slot is vacant, the call first releases the local references that were dropped, and
+    /// makes one turn on each retired entry. A value that is freed by that goes to its [`Retired`],
+    /// or to the next call that [returns or drops](crate#what-is-dropped) what is freed.
     ///
     /// # Errors
     ///
-    /// `OtherRegistry`, `Inside`, `NameTaken`, `NoSlot`, `HistoryFull`. The value is returned.
-    pub fn attach(&self, cpu: &Cpu<T>, name: &Name, value: T) -> Result<Entry, Refused<AttachError, T>> {
-        Ok(self.change(&mut New { cpu, name, driver: None, replaces: false }, value)?.0)
+    /// `NeedsDriver` for an interface's key, `BadName`, `Inside`, `NameTaken`, `NoSlot`,
+    /// `HistoryFull`. The value is returned.
+    pub fn attach(&self, key: impl Into<Key>, value: T) -> Result<Entry, Refused<AttachError, T>> {
+        let key = key.into();
+        self.changing(value, |cpu, value| cpu.attach(key, value))
     }
 
-    /// Attaches an interface that carries this value, as [`attach`](Registry::attach) does, on the driver that the reference is to. The interface's slot keeps
-    /// the reference, so the driver outlives the interface.
+    /// Attaches an interface that carries this value, as [`attach`](Registry::attach) does, on the
+    /// live driver with the name `driver`. The interface's slot keeps a local reference, so the
+    /// driver outlives the interface, and so does what each carries: the driver's value is neither
+    /// returned nor dropped before the interface's was.
+    ///
+    /// ```
+    /// use kupaldiz::{Kind, Patience, Registry, Settings};
+    ///
+    /// let registry = Registry::open(Settings::new(1, 2)).unwrap();
+    /// registry.attach("gzip", "library").unwrap();
+    /// registry.attach_iface("gzip", "gzip0", "object").unwrap();
+    /// let driver = registry.detach("gzip").unwrap();
+    /// let held = driver.destroy(Patience::Turns(1)).unwrap_err();
+    /// assert!(held.to_string().ends_with("1 local reference"));
+    /// let object = registry.detach((Kind::Iface, "gzip0")).unwrap();
+    /// assert_eq!(object.destroy(Patience::Turns(1)).unwrap().value, "object");
+    /// assert_eq!(held.given.destroy(Patience::Turns(1)).unwrap().value, "library");
+    /// ```
     ///
     /// # Errors
     ///
-    /// `OtherRegistry` for the CPU or the reference, `Inside`, `NeedsDriver` if the reference is to an interface, `NameTaken`, `NoSlot`,
-    /// `HistoryFull`. The reference and the value are returned.
+    /// `BadName`, `Inside`, `SectionsSpent`, `NeedsDriver` if no live driver has that name,
+    /// `LocalFull`, `NameTaken`, `NoSlot`, `HistoryFull`. The value is returned.
+    #[track_caller]
     pub fn attach_iface(
         &self,
-        cpu: &Cpu<T>,
-        name: &Name,
-        driver: LocalRef<T>,
+        driver: impl Into<Key>,
+        name: impl Into<Key>,
         value: T,
-    ) -> Result<Entry, Refused<AttachError, (LocalRef<T>, T)>> {
-        Ok(self.change_on(cpu, name, driver, value, false)?.0)
+    ) -> Result<Entry, Refused<AttachError, T>> {
+        let (driver, name, at) = (driver.into(), name.into(), Location::caller());
+        let made = self.changing(value, |cpu, value| {
+            New::of(cpu, name, Some(driver), false, at).change(value)
+        });
+        Ok(made?.0)
     }
 
-    /// Replaces what the live driver with this name carries: detaches it, and [attaches](Registry::attach) another one with this value, under one hold of the
-    /// interlock. A lookup between the two finds nothing. The new one needs a slot of its own. On an error the old entry stays.
+    /// Puts another value in the place of what the entry of this name carries: another entry, with
+    /// the same name. A lookup meanwhile finds the old one or the new one. The new one needs a slot
+    /// of its own. On an error the old one stays.
+    ///
+    /// ```
+    /// use kupaldiz::{Registry, Settings};
+    ///
+    /// let registry = Registry::open(Settings::new(1, 2)).unwrap();
+    /// registry.attach("wm", 7).unwrap();
+    /// let old = registry.get("wm").unwrap();
+    /// let (_, retired) = registry.replace("wm", 8).unwrap();
+    /// assert_eq!((*old, *registry.get("wm").unwrap()), (7, 8));
+    /// drop(old);
+    /// assert_eq!(retired.try_destroy().unwrap().value, 7);
+    /// ```
     ///
     /// # Errors
     ///
-    /// `OtherRegistry`, `Inside`, `NotFound`, `NoSlot`, `HistoryFull`. The value is returned.
-    pub fn replace(&self, cpu: &Cpu<T>, name: &Name, value: T) -> Result<(Entry, Retired<T>), Refused<AttachError, T>> {
-        self.change(&mut New { cpu, name, driver: None, replaces: true }, value).map(Made::both)
+    /// `NeedsDriver` for an interface's key, `BadName`, `Inside`, `NotFound`, `NoSlot`,
+    /// `HistoryFull`. The value is returned.
+    pub fn replace(
+        &self,
+        key: impl Into<Key>,
+        value: T,
+    ) -> Result<(Entry, Retired<T>), Refused<AttachError, T>> {
+        let key = key.into();
+        self.changing(value, |cpu, value| cpu.replace(key, value))
     }
 
-    /// Replaces what the live interface with this name carries, as [`replace`](Registry::replace) does for a driver. The new interface keeps this reference.
-    /// The old one keeps its own until it is freed.
+    /// Replaces what the live interface with this name carries, as [`replace`](Registry::replace)
+    /// does. The new interface keeps the live driver with the name `driver`, and the old one its
+    /// own until it is freed.
     ///
     /// # Errors
     ///
-    /// `OtherRegistry` for the CPU or the reference, `Inside`, `NeedsDriver`, `NotFound`, `NoSlot`, `HistoryFull`. The reference and the value are returned.
-    #[allow(clippy::type_complexity)]
+    /// As of [`attach_iface`](Registry::attach_iface), with `NotFound` in place of `NameTaken`.
+    #[track_caller]
     pub fn replace_iface(
         &self,
-        cpu: &Cpu<T>,
-        name: &Name,
-        driver: LocalRef<T>,
+        driver: impl Into<Key>,
+        name: impl Into<Key>,
         value: T,
-    ) -> Result<(Entry, Retired<T>), Refused<AttachError, (LocalRef<T>, T)>> {
-        self.change_on(cpu, name, driver, value, true).map(Made::both)
+    ) -> Result<(Entry, Retired<T>), Refused<AttachError, T>> {
+        let (driver, name, at) = (driver.into(), name.into(), Location::caller());
+        let made = self
+            .changing(value, |cpu, value| New::of(cpu, name, Some(driver), true, at).change(value));
+        made.map(Made::both)
     }
 
-    /// Detaches the live entry with this kind and name. Lookups that begin after this call has returned don't find it. It keeps its value until that is taken
-    /// by the returned [`Retired`].
+    /// Detaches the live entry of this name. Lookups that begin after this call has returned don't
+    /// find it. It keeps its value until that is taken by the returned [`Retired`].
     ///
     /// # Errors
     ///
-    /// `OtherRegistry`, `Inside`, `NotFound`.
-    pub fn detach(&self, cpu: &Cpu<T>, kind: Kind, name: &Name) -> Result<Retired<T>, DetachError> {
-        self.tidy(cpu)?;
-        self.detach_by(&mut self.shared.kept(), cpu, kind, name)
+    /// `Inside`, `NotFound`.
+    pub fn detach(&self, key: impl Into<Key>) -> Result<Retired<T>, DetachError> {
+        let key = key.into();
+        self.seats.with(|cpu| cpu.detach(key)).unwrap_or(Err(DetachError::NoCpu))
     }
 
-    /// Detaches this entry, as [`detach`](Registry::detach) does, if it is still live. Another entry that has its kind and name by now stays.
+    /// Detaches this entry, as [`detach`](Registry::detach) does, if it is still live. Another
+    /// entry that has its name by now stays.
     ///
     /// # Errors
     ///
-    /// `OtherRegistry` for the CPU, `Inside`, `NotFound` if no live entry is this one.
-    pub fn detach_entry(&self, cpu: &Cpu<T>, entry: &Entry) -> Result<Retired<T>, DetachError> {
-        self.tidy(cpu)?;
-        let mut kept = self.shared.kept();
-        if cpu.is_inside() || kept.all_live().iter().any(|live| live.entry() == *entry) {
-            self.detach_by(&mut kept, cpu, entry.kind, &entry.name)
+    /// `Inside`, `NotFound` if no live entry is this one.
+    pub fn detach_entry(&self, entry: &Entry) -> Result<Retired<T>, DetachError> {
+        self.seats.with(|cpu| cpu.detach_entry(entry)).unwrap_or(Err(DetachError::NoCpu))
+    }
+
+    /// Detaches the live entry of this name, [defers](Retired::defer) it, and returns what is free
+    /// already: this entry, if nothing holds it, and those that were retired before. What is still
+    /// held a later retire or [`Registry::free_deferred`] returns.
+    ///
+    /// # Errors
+    ///
+    /// `Inside`, `NotFound`.
+    pub fn retire(&self, key: impl Into<Key>) -> Result<Vec<Freed<T>>, DetachError> {
+        Ok(self.detach(key)?.deferred())
+    }
+
+    /// Makes a change on a CPU that the crate chooses.
+    fn changing<R>(
+        &self,
+        value: T,
+        change: impl FnOnce(&Cpu<T>, T) -> Result<R, Refused<AttachError, T>>,
+    ) -> Result<R, Refused<AttachError, T>> {
+        let (mut given, mut made) = (Some(value), None);
+        self.seats.with(|cpu| made = given.take().map(|value| change(cpu, value)));
+        let refused = |given| Err(Refused { refusal: AttachError::NoCpu, given });
+        made.unwrap_or_else(|| refused(given.take().expect("no change was made")))
+    }
+}
+
+/// Changes on this CPU, as those of [`Registry`] are on one that the crate chooses, with the same
+/// errors but `NoCpu`.
+impl<T> Cpu<T> {
+    /// As [`Registry::attach`].
+    #[track_caller]
+    pub fn attach(&self, key: impl Into<Key>, value: T) -> Result<Entry, Refused<AttachError, T>> {
+        Ok(New::of(self, key.into(), None, false, Location::caller()).change(value)?.0)
+    }
+
+    /// As [`Registry::attach_iface`].
+    #[track_caller]
+    pub fn attach_iface(
+        &self,
+        driver: impl Into<Key>,
+        name: impl Into<Key>,
+        value: T,
+    ) -> Result<Entry, Refused<AttachError, T>> {
+        let at = Location::caller();
+        Ok(New::of(self, name.into(), Some(driver.into()), false, at).change(value)?.0)
+    }
+
+    /// As [`Registry::replace`].
+    #[track_caller]
+    pub fn replace(
+        &self,
+        key: impl Into<Key>,
+        value: T,
+    ) -> Result<(Entry, Retired<T>), Refused<AttachError, T>> {
+        New::of(self, key.into(), None, true, Location::caller()).change(value).map(Made::both)
+    }
+
+    /// As [`Registry::replace_iface`].
+    #[track_caller]
+    pub fn replace_iface(
+        &self,
+        driver: impl Into<Key>,
+        name: impl Into<Key>,
+        value: T,
+    ) -> Result<(Entry, Retired<T>), Refused<AttachError, T>> {
+        let at = Location::caller();
+        New::of(self, name.into(), Some(driver.into()), true, at).change(value).map(Made::both)
+    }
+
+    /// As [`Registry::detach`].
+    pub fn detach(&self, key: impl Into<Key>) -> Result<Retired<T>, DetachError> {
+        self.tidy();
+        self.detach_by(&mut self.shared().kept(), key.into())
+    }
+
+    /// As [`Registry::detach_entry`].
+    pub fn detach_entry(&self, entry: &Entry) -> Result<Retired<T>, DetachError> {
+        self.tidy();
+        let mut kept = self.shared().kept();
+        let live = kept.live(entry.number).map(|live| live.entry(self.registry_id));
+        if self.is_inside() || live == Some(*entry) {
+            self.detach_by(&mut kept, Key::from(entry))
         } else {
             Err(DetachError::NotFound)
         }
     }
 
-    /// Detaches the live entry with this kind and name, [defers](Retired::defer) it, and returns what is free already: this entry, if nothing holds it,
-    /// and those that were retired before. What is still held a later retire or [`Registry::collect`] returns.
-    ///
-    /// # Errors
-    ///
-    /// `OtherRegistry`, `Inside`, `NotFound`.
-    pub fn retire(&self, cpu: &Cpu<T>, kind: Kind, name: &Name) -> Result<Vec<Freed<T>>, DetachError> {
-        Ok(self.detach(cpu, kind, name)?.deferred())
+    /// As [`Registry::retire`].
+    pub fn retire(&self, key: impl Into<Key>) -> Result<Vec<Freed<T>>, DetachError> {
+        Ok(self.detach(key)?.deferred())
     }
 
-    /// Attaches an entry with this value. If no slot is vacant, once more after what nobody holds was freed.
-    fn change(&self, new: &mut New<'_, T>, value: T) -> Result<Made<T>, Refused<AttachError, T>> {
-        if let Err(Foreign) = self.tidy(new.cpu) {
-            return Err(Refused { refusal: AttachError::OtherRegistry, given: value });
+    /// What comes before a change: a CPU that is outside releases what was dropped.
+    fn tidy(&self) {
+        if self.shared().baskets.has_any() && !self.is_inside() {
+            self.release_dropped();
         }
-        let carried = Carried::new(value);
-        let mut done = self.make(new, carried);
-        if matches!(done, Err(AttachError::NoSlot)) {
-            new.cpu.release_dropped();
-            if self.shared.make_room() {
-                done = self.make(new, carried);
-            }
-        }
-        // SAFETY: registry.h says of a call that is refused that it changes nothing, so no entry has the address.
-        done.map_err(|refusal| Refused { refusal, given: unsafe { carried.take() } })
     }
 
-    /// The same, for an interface on this driver.
-    fn change_on(&self, cpu: &Cpu<T>, name: &Name, driver: LocalRef<T>, value: T, replaces: bool) -> Result<Made<T>, RefusedIface<T>> {
-        if !driver.is_of(&self.shared) {
-            return Err(Refused { refusal: AttachError::OtherRegistry, given: (driver, value) });
+    /// Detaches all live entries, the youngest first, but those that are attached meanwhile.
+    pub(crate) fn detach_all(&self) -> Result<Vec<Retired<T>>, DetachError> {
+        self.tidy();
+        if self.is_inside() {
+            return Err(DetachError::Inside);
         }
-        let mut driver = driver;
-        let made = self.change(&mut New { cpu, name, driver: Some(&mut driver), replaces }, value);
-        made.map_err(|Refused { refusal, given }| Refused { refusal, given: (driver, given) })
-    }
-
-    /// Makes the change under one hold of the interlock. If it is refused, nothing has changed.
-    fn make(&self, new: &mut New<'_, T>, carried: Carried<T>) -> Result<Made<T>, AttachError> {
-        let (mut kept, mut gone) = (self.shared.kept(), ffi::Entry::default());
-        // SAFETY: the keeper is locked, and of this registry, as the CPU and the driver are.
-        let call = |made: *mut ffi::Entry| unsafe { new.attach(&mut kept.keeper, carried.word(), &mut gone, made) };
-        // SAFETY: the call is an attach, which registry.h says writes the entry, to this registry.
-        let made = unsafe { Record::<T>::written(call) }.map_err(AttachError::of)?.plain;
-        let old = new.replaces.then(|| self.detached(&mut kept, &Record::of(&gone)));
-        // SAFETY: the call has attached the entry with the value's address.
-        unsafe { kept.note(made, carried) };
-        if let Some(driver) = &new.driver {
-            self.shared.noted(|notes| notes.kept(driver.record.plain.ticket, made.number));
+        let (mut tokens, mut before) = (Vec::new(), u64::MAX);
+        loop {
+            let mut kept = self.shared().kept();
+            let entry = match kept.youngest_live(before) {
+                Some(entry) => entry,
+                None => return Ok(tokens),
+            };
+            before = entry.number;
+            // It is live, and isn't refused. A `?` would drop the tokens on a CPU of a call.
+            tokens.extend(self.detach_by(&mut kept, entry.key()));
         }
-        Ok(Made(made.entry(), old))
     }
 
     /// Detaches under the interlock.
-    fn detach_by(&self, kept: &mut Kept<T>, cpu: &Cpu<T>, kind: Kind, name: &Name) -> Result<Retired<T>, DetachError> {
-        let keeper = &mut kept.keeper;
-        // SAFETY: the keeper is locked, the CPU is this thread's, both are of one registry, and their handles aren't empty.
-        let call = |gone: *mut ffi::Entry| unsafe { ffi::registry_detach(keeper, cpu.handle(), kind.number(), &name.words, gone) };
-        // SAFETY: registry.h says of a detach that it writes the entry.
+    fn detach_by(&self, kept: &mut Kept<T>, key: Key) -> Result<Retired<T>, DetachError> {
+        let (keeper, Key { kind, words }) = (&mut kept.keeper, key);
+        // SAFETY: the keeper is locked, the CPU is this thread's, both are of one registry, and
+        // their handles aren't empty.
+        let call = |gone: *mut ffi::Entry| unsafe {
+            ffi::kupaldiz_detach(keeper, self.handle(), kind.number(), &words, gone)
+        };
+        // SAFETY: kupaldiz.h says of a detach that it writes the entry.
         let gone = unsafe { Record::written(call) }.map_err(DetachError::of)?;
         Ok(self.detached(kept, &gone))
     }
@@ -162,40 +272,106 @@ impl<T> Registry<T> {
     /// The token of an entry that was just detached under the interlock.
     fn detached(&self, kept: &mut Kept<T>, gone: &Record<T>) -> Retired<T> {
         kept.retire(gone.plain.number);
-        self.shared.noted(|notes| notes.detached(gone.plain.number));
+        self.shared().noted(|notes| notes.detached(gone.plain.number));
         // SAFETY: the entry was just detached.
-        unsafe { Retired::new(Arc::clone(&self.shared), gone.carried) }
+        unsafe { Retired::new(Arc::clone(self.shared()), gone.carried) }
     }
 }
 
 /// An entry that is to be attached, maybe in place of another: an interface, if it has a driver.
 struct New<'a, T> {
     cpu: &'a Cpu<T>,
-    name: &'a Name,
-    driver: Option<&'a mut LocalRef<T>>,
+    key: Key,
+    driver: Option<Key>,
     replaces: bool,
+    /// The caller's line.
+    at: &'static Location<'static>,
 }
 
-impl<T> New<'_, T> {
-    /// Makes the call of registry.h, which writes the entry that was attached, and the one that it replaces, if there is one.
-    /// Safety: the keeper is locked, and the CPU and the driver are of its registry.
-    unsafe fn attach(&mut self, keeper: &mut ffi::Keeper, word: u64, gone: *mut ffi::Entry, made: *mut ffi::Entry) -> u32 {
-        let (cpu, name) = (self.cpu.handle(), &self.name.words);
-        match (self.driver.as_mut().map(|driver| &mut driver.handle), self.replaces) {
-            // SAFETY: as the caller says. The CPU is this thread's, and no handle is empty. This is the only use of the reference's handle. It is
-            // empty afterwards if the call is done, so dropping the reference releases nothing.
-            (Some(driver), true) => unsafe { ffi::registry_replace_iface(keeper, cpu, driver, name, word, gone, made) },
+impl<'a, T> New<'a, T> {
+    fn of(
+        cpu: &'a Cpu<T>,
+        key: Key,
+        driver: Option<Key>,
+        replaces: bool,
+        at: &'static Location<'static>,
+    ) -> New<'a, T> {
+        let driver = driver.map(|driver| Key { kind: Kind::Driver, ..driver });
+        New { cpu, key, driver, replaces, at }
+    }
+
+    /// Makes the change. If no slot is vacant, what nobody holds is freed before.
+    fn change(&self, value: T) -> Result<Made<T>, Refused<AttachError, T>> {
+        self.cpu.tidy();
+        let (shared, loose) = (self.cpu.shared(), Loose::new(value));
+        let mut kept = shared.kept();
+        if !kept.has_slot() && !self.cpu.is_inside() {
+            drop(kept);
+            self.cpu.release_dropped();
+            shared.make_room();
+            kept = shared.kept();
+        }
+        let made = self.make(&mut kept, loose);
+        drop(kept);
+        made.map_err(|(refusal, loose)| Refused { refusal, given: loose.into_value() })
+    }
+
+    /// Makes the change under one hold of the interlock. If it fails, nothing has changed, and the
+    /// value comes back.
+    fn make(
+        &self,
+        kept: &mut Kept<T>,
+        loose: Loose<T>,
+    ) -> Result<Made<T>, (AttachError, Loose<T>)> {
+        let (shared, mut gone) = (self.cpu.shared(), ffi::Entry::default());
+        let driver = self.driver.and_then(|driver| kept.named(driver));
+        // SAFETY: the keeper is locked, and of this registry, as the CPU is.
+        let call = |made: *mut ffi::Entry| unsafe {
+            self.attach(&mut kept.keeper, loose.word(), &mut gone, made)
+        };
+        // SAFETY: the call is an attach, which kupaldiz.h says writes the entry, to this registry.
+        // If it fails, no entry has the address.
+        let made = match unsafe { Record::<T>::written(call) } {
+            Ok(made) => made.plain,
+            Err(answer) => return Err((AttachError::of(answer), loose)),
+        };
+        // SAFETY: the call has attached the entry with the value's address.
+        unsafe { kept.note(made, loose.attached(), driver) };
+        if let Some(driver) = driver {
+            shared.noted(|notes| notes.kept(driver, self.cpu.id(), self.at, made.number));
+        }
+        let old = self.replaces.then(|| self.cpu.detached(kept, &Record::of(&gone)));
+        Ok(Made(made.entry(shared.id), old))
+    }
+
+    /// Makes the call of kupaldiz.h, which writes the entry that was attached, and the one that it
+    /// replaces, if there is one.
+    /// Safety: the keeper is locked, and the CPU is of its registry.
+    unsafe fn attach(
+        &self,
+        keeper: &mut ffi::Keeper,
+        word: u64,
+        gone: *mut ffi::Entry,
+        made: *mut ffi::Entry,
+    ) -> u32 {
+        let (cpu, name) = (self.cpu.handle(), &self.key.words);
+        match (&self.driver, self.replaces) {
+            (None, _) if self.key.kind == Kind::Iface => ffi::NEEDS_DRIVER,
+            // SAFETY: as the caller says. The CPU is this thread's, and no handle is empty.
+            (Some(driver), true) => unsafe {
+                ffi::kupaldiz_replace_iface(keeper, cpu, &driver.words, name, word, gone, made)
+            },
             // SAFETY: as above.
-            (Some(driver), false) => unsafe { ffi::registry_attach_iface(keeper, cpu, driver, name, word, made) },
-            // SAFETY: as above, without a reference.
-            (None, true) => unsafe { ffi::registry_replace(keeper, cpu, name, word, gone, made) },
-            // SAFETY: as above, without a reference.
-            (None, false) => unsafe { ffi::registry_attach(keeper, cpu, name, word, made) },
+            (Some(driver), false) => unsafe {
+                ffi::kupaldiz_attach_iface(keeper, cpu, &driver.words, name, word, made)
+            },
+            // SAFETY: as above.
+            (None, true) => unsafe { ffi::kupaldiz_replace(keeper, cpu, name, word, gone, made) },
+            // SAFETY: as above.
+            (None, false) => unsafe { ffi::kupaldiz_attach(keeper, cpu, name, word, made) },
         }
     }
 }
-
-type RefusedIface<T> = Refused<AttachError, (LocalRef<T>, T)>;
 
 /// An entry that was attached, and the one that it replaces.
 struct Made<T>(Entry, Option<Retired<T>>);

@@ -2,43 +2,79 @@
 
 use crate::carried::Record;
 use crate::ffi;
-use crate::lock::Tasks;
 use crate::places::Hold;
 use crate::registry::Registry;
 use crate::shared::{Lease, Shared};
+use crate::tasks::{Tasks, Until};
 use std::cell::{Cell, UnsafeCell};
 use std::fmt;
 use std::mem;
 use std::panic::Location;
 use std::sync::Arc;
 
-/// One of the registry's CPUs, for the thread that has it. It is a handle, not a processor. It co-owns its registry. It may be stored, and go to another
-/// thread. Sections and passive references borrow it, so it can't be moved or dropped while one exists: a struct that owns both has a
-/// [`PassiveRc`](crate::PassiveRc). More threads than CPUs share them by a [`CpuPool`](crate::CpuPool).
+/// One of the registry's CPUs, for the thread that has it: for those who count cycles, since a
+/// lookup on it takes no step that another thread waits for. It is a handle, not a processor. It
+/// co-owns its registry. It may be stored, and go to another thread. Sections and passive
+/// references borrow it, so it can't be moved or dropped while one exists: a struct that owns both
+/// has a [`PassiveRc`](crate::PassiveRc). More threads than CPUs share them by a
+/// [`CpuPool`](crate::CpuPool), or make the calls of [`Registry`].
 ///
-/// A CPU that is dropped goes back to its registry. [`Registry::cpu`] and [`Registry::any_cpu`] return it again.
+/// A CPU that is dropped goes back to its registry. [`Registry::cpu`] and [`Registry::any_cpu`]
+/// return it again.
+///
+/// ```
+/// use kupaldiz::{Name, Registry, Settings};
+/// use std::thread;
+///
+/// const SEVEN: Name = Name::from_id(7);
+///
+/// let registry = Registry::open(Settings::new(2, 1)).unwrap();
+/// let cpu = registry.any_cpu().unwrap();
+/// cpu.attach(SEVEN, "seven").unwrap();
+/// let read = move || *cpu.read(&SEVEN).unwrap();
+/// assert_eq!(thread::spawn(read).join().unwrap(), "seven");
+/// assert_eq!(registry.cpus().len(), 2);
+/// ```
 // A release writes `given_back`, so two CPUs lie on cache lines of their own.
 #[repr(align(128))]
 pub struct Cpu<T> {
-    /// In a cell, so that sections and references can be had at once. A CPU isn't `Sync`, and no call calls back: one call at a time.
+    /// In a cell, so that sections and references can be had at once. A CPU isn't `Sync`, and no
+    /// call calls back: one call at a time.
     handle: UnsafeCell<ffi::Cpu>,
     lease: Arc<Lease<T>>,
     /// The share of a local reference that was released here, for the next one that is acquired.
     given_back: Cell<Option<Arc<Lease<T>>>>,
+    /// The row of its last walk, for the next one.
+    pub(crate) spare_row: Cell<Vec<ffi::Entry>>,
+    /// What tasks are owed where the crate has chosen it: nobody's code runs until it is given
+    /// back. The slots whose local references were let go.
+    pub(crate) owed: Cell<Option<Vec<usize>>>,
+    /// The number of the registry.
+    pub(crate) registry_id: u64,
     id: u8,
     is_tracked: bool,
 }
 
 impl<T> Cpu<T> {
     /// Safety: the handle is of the CPU with this number, of this registry.
-    pub(crate) unsafe fn new(shared: Arc<Shared<T>>, id: u8, handle: ffi::Cpu) -> Cpu<T> {
+    unsafe fn new(shared: Arc<Shared<T>>, id: u8, handle: ffi::Cpu) -> Cpu<T> {
         Cpu {
             handle: UnsafeCell::new(handle),
+            registry_id: shared.id,
             is_tracked: shared.notes.is_some(),
             lease: Arc::new(Lease { shared }),
             given_back: Cell::new(None),
+            spare_row: Cell::default(),
+            owed: Cell::new(None),
             id,
         }
+    }
+
+    /// The CPU with this number, if it is spare.
+    pub(crate) fn spare(shared: &Arc<Shared<T>>, id: u8) -> Option<Cpu<T>> {
+        let handle = shared.take_cpu(id)?;
+        // SAFETY: it is the handle of this CPU, and of nobody else.
+        Some(unsafe { Cpu::new(Arc::clone(shared), id, handle) })
     }
 
     #[inline]
@@ -85,7 +121,7 @@ impl<T> Cpu<T> {
     pub fn depth(&self) -> u8 {
         let mut depth = 0;
         // SAFETY: this thread alone has the CPU, whose handle isn't empty.
-        unsafe { ffi::registry_depth(self.handle(), &mut depth) };
+        unsafe { ffi::kupaldiz_depth(self.handle(), &mut depth) };
         depth as u8
     }
 
@@ -94,27 +130,69 @@ impl<T> Cpu<T> {
         self.depth() != 0
     }
 
-    /// Exits all sections that are still open. Their guards were forgotten: a guard that lives borrows the CPU.
+    /// Exits all sections that are still open. Their guards were forgotten: a guard that lives
+    /// borrows the CPU.
     pub fn leave(&mut self) {
-        // SAFETY: as for `depth`. No guard lives, so nothing that was found in these sections is in use.
-        while unsafe { ffi::registry_exit(self.handle()) } == ffi::DONE {}
+        self.exit_all();
+        self.wake(self.tasks());
+    }
+
+    /// The same, and wakes nobody.
+    pub(crate) fn exit_all(&mut self) {
+        // SAFETY: as for `depth`. No guard lives, so nothing that was found in these sections is in
+        // use.
+        while unsafe { ffi::kupaldiz_exit(self.handle()) } == ffi::DONE {}
         self.left();
-        self.tasks().wake();
     }
 
     /// Whether this CPU has a passive reference to the entry with that number: `psref_held`.
     pub fn holds(&self, number: u64) -> bool {
         let mut held = false;
         // SAFETY: as for `depth`.
-        unsafe { ffi::registry_held(self.handle(), number, &mut held) };
+        unsafe { ffi::kupaldiz_held(self.handle(), number, &mut held) };
         held
     }
 
-    /// The tasks that wait for retired entries: each call that may have let one go wakes them. Where it counts, they are looked for before that call, so
-    /// that this doesn't wait for the call's atomic steps.
+    /// The tasks that wait for retired entries. Where it counts, they are looked for before the
+    /// call that lets something go, so that this doesn't wait for the call's atomic steps.
     #[inline]
-    pub(crate) fn tasks(&self) -> &Tasks {
+    pub(crate) fn tasks(&self) -> &Tasks<Until> {
         &self.shared().tasks
+    }
+
+    /// Wakes the tasks that wait for this CPU, where a section ended, a reference was released, or
+    /// a lookup is over. It is the last thing that a call does.
+    #[inline]
+    pub(crate) fn wake(&self, tasks: &Tasks<Until>) {
+        if tasks.are_any() && self.let_go(&[]) {
+            self.wake_noted(tasks);
+        }
+    }
+
+    #[cold]
+    fn wake_noted(&self, tasks: &Tasks<Until>) {
+        tasks.wake(|number, until| {
+            let is_on = match until {
+                Until::Exit(_) => self.is_inside(),
+                Until::Release(_) => self.holds(number),
+                Until::Local(_) | Until::Any => false,
+            };
+            until.is_of_cpu(self.id) && !is_on
+        });
+    }
+
+    /// Local references to the entries in these slots were let go: tasks are woken, or are owed it.
+    /// Whether they may be woken.
+    #[inline]
+    pub(crate) fn let_go(&self, slots: &[usize]) -> bool {
+        let mut owed = self.owed.take();
+        let may_wake = owed.is_none();
+        owed.iter_mut().for_each(|owed| owed.extend(slots));
+        self.owed.set(owed);
+        if may_wake && !slots.is_empty() {
+            self.shared().wake_for_slots(slots);
+        }
+        may_wake
     }
 }
 
@@ -122,14 +200,27 @@ impl<T> Cpu<T> {
 impl<T> Cpu<T> {
     /// Notes where a reference to the entry was acquired.
     #[inline]
-    pub(crate) fn noted(&self, hold: Hold, mut record: Record<T>, at: &'static Location<'static>) -> Record<T> {
-        if self.is_tracked {
-            record.plain.ticket = self.note(hold, record.plain.number, at);
-        }
+    pub(crate) fn noted(
+        &self,
+        hold: Hold,
+        mut record: Record<T>,
+        at: &'static Location<'static>,
+    ) -> Record<T> {
+        record.plain.ticket = self.ticket(hold, record.plain.number, at);
         record
     }
 
-    /// By its number: its record needn't lie in memory then.
+    /// The ticket of a note that a reference was acquired, to the entry with this number; 0 where
+    /// nothing is noted.
+    #[inline]
+    pub(crate) fn ticket(&self, hold: Hold, number: u64, at: &'static Location<'static>) -> u32 {
+        if self.is_tracked {
+            self.note(hold, number, at)
+        } else {
+            0
+        }
+    }
+
     #[cold]
     fn note(&self, hold: Hold, number: u64, at: &'static Location<'static>) -> u32 {
         self.shared().noted(|notes| notes.acquired(hold, self.id, number, at))
@@ -164,12 +255,19 @@ impl<T> Cpu<T> {
 
 /// The release of local references.
 impl<T> Cpu<T> {
-    /// Releases all local references that were dropped without a CPU before the call, on any thread. It may wait for the interlock. No program needs this
-    /// call: [other calls](crate::LocalRef#dropped-without-a-cpu) do it.
+    /// Releases all local references that were dropped without a CPU before the call, on any
+    /// thread. It may wait for the interlock.
     pub fn release_dropped(&self) {
         if self.shared().baskets.has_any() {
-            self.shared().baskets.slots().for_each(|slot| self.release_of(slot));
+            self.let_go(&self.release_all());
         }
+    }
+
+    /// The same, and wakes nobody. The slots of what was released.
+    fn release_all(&self) -> Vec<usize> {
+        let slots: Vec<usize> = self.shared().baskets.slots().collect();
+        slots.iter().for_each(|slot| self.release_of(*slot));
+        slots
     }
 
     /// Releases those that are to the entry in this slot.
@@ -177,6 +275,7 @@ impl<T> Cpu<T> {
     pub(crate) fn release_to(&self, slot: usize) {
         if self.shared().baskets.has(slot) {
             self.release_of(slot);
+            self.let_go(&[slot]);
         }
     }
 
@@ -184,24 +283,29 @@ impl<T> Cpu<T> {
     fn release_of(&self, slot: usize) {
         for local in self.shared().baskets.take(slot) {
             // SAFETY: what lies in a registry's baskets is of it.
-            unsafe { self.release_local(slot, local) };
+            unsafe { self.release_local(local) };
         }
     }
 
-    /// Releases a reference to the entry in this slot, or gives it up under the interlock where this CPU's count was collected.
-    /// Safety: the reference is of this registry.
+    /// Releases a reference, under the interlock where this CPU's count was collected. It wakes
+    /// nobody. Safety: the reference is of this registry.
     #[inline]
-    pub(crate) unsafe fn release_local(&self, slot: usize, mut local: ffi::Local) {
-        let shared = self.shared();
-        // SAFETY: this thread alone has the CPU, whose handle isn't empty, and the caller upholds the contract for the reference.
-        if unsafe { ffi::registry_local_release(self.handle(), &mut local) } != ffi::DONE {
+    pub(crate) unsafe fn release_local(&self, mut local: ffi::Local) {
+        // SAFETY: this thread alone has the CPU, whose handle isn't empty, and the caller upholds
+        // the contract for the reference.
+        if unsafe { ffi::kupaldiz_try_release_local(self.handle(), &mut local) } != ffi::DONE {
+            let mut kept = self.shared().kept();
+            let (keeper, cpu) = (&mut kept.keeper, self.handle());
             // SAFETY: the keeper is locked, and of the reference's registry.
-            unsafe { ffi::registry_local_give_up(&mut shared.kept().keeper, &mut local) };
+            unsafe { ffi::kupaldiz_release_local_locked(keeper, cpu, &mut local) };
         }
-        if !local.is_empty() {
-            shared.baskets.lay(slot, local);
-        }
-        shared.tasks.wake();
+        debug_assert!(local.is_empty(), "it is released on a CPU");
+    }
+
+    /// The passive reference of C to this entry, which this CPU has.
+    #[inline]
+    pub(crate) fn passive(&self, record: Record<T>) -> ffi::Passive {
+        ffi::Passive { entry: record.to_c(), cpu: u64::from(self.id) }
     }
 }
 
@@ -212,13 +316,15 @@ impl<T> AsRef<Cpu<T>> for Cpu<T> {
 }
 
 impl<T> Drop for Cpu<T> {
-    /// Leaves, and goes back to its registry. What it refers to passively by then was forgotten, and stays held.
+    /// Leaves, and goes back to its registry. What it refers to passively by then was forgotten,
+    /// and stays held. It wakes all tasks: as CPUs go, a task of a runtime that is gone goes, too.
     fn drop(&mut self) {
-        self.leave();
-        self.release_dropped();
+        self.exit_all();
+        self.release_all();
         let handle = mem::replace(self.handle.get_mut(), ffi::Cpu::EMPTY);
         // SAFETY: it is this CPU's, which is gone.
         unsafe { self.shared().put_cpu(self.id, handle) };
+        self.tasks().wake(|_, _| true);
     }
 }
 

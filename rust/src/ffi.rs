@@ -1,100 +1,166 @@
-//! The calls of registry.h that this crate makes, as C declares them. What the caller must keep is written there; the modules above say how
-//! they keep it.
+//! kupaldiz.h for Rust. calls.rs has its calls and constants, and a tool makes that of it. What the
+//! caller must keep is written there; the modules above say how they keep it.
 
 use crate::settings::Limits;
-use std::ffi::c_void;
-use std::ffi::CStr;
-use std::os::raw::c_char;
+use std::ffi::{c_void, CStr};
+use std::marker::PhantomData;
+use std::mem;
+use std::os::raw::{c_char, c_uint};
 use std::ptr;
 
 include!(concat!(env!("OUT_DIR"), "/limits.rs"));
 
-/// Numbers of registry.h: answers, kinds, stages.
-macro_rules! numbers {
-    ($type:ident: $($name:ident = $number:literal),*) => {
-        $(pub const $name: $type = $number;)*
-    };
-}
-
-numbers! {
-    u32: DONE = 0, NO_MEMORY = 1, BAD_SETTINGS = 2, NAME_TAKEN = 3, NO_SLOT = 4, HISTORY_FULL = 5, NOT_FOUND = 6, INSIDE = 7, SECTIONS_SPENT = 8,
-    PASSIVE_FULL = 10, LOCAL_FULL = 13, NOT_RETIRED = 14, MISSING_CPU = 15, STILL_HELD = 16, WAITING = 17, TOO_DEEP = 18, NEEDS_DRIVER = 19,
-    OTHER_LIMITS = 78
-}
-numbers! { u64: INTERFACE = 1, DRIVER = 2 }
-numbers! { u64: GRACE = 0, PASSIVE = 1, LOCAL = 2, FREED = 3 }
-
-/// Handles: the one word is never looked into, and the value is moved and never copied.
-macro_rules! handles {
-    ($($name:ident)*) => {$(
-        #[repr(C)]
-        pub struct $name {
-            at: *mut c_void,
-        }
-
-        impl $name {
-            pub const EMPTY: $name = $name { at: ptr::null_mut() };
-
-            #[allow(dead_code)] // Nobody asks a keeper's.
-            pub fn is_empty(&self) -> bool {
-                self.at.is_null()
-            }
-        }
-
-        // SAFETY: registry(7) says that a handle goes to another thread by a lock, or by the start or the join of a thread; in Rust a
-        // value goes by nothing less.
-        unsafe impl Send for $name {}
+macro_rules! constants {
+    ($($name:ident = $number:literal;)*) => {$(
+        #[allow(dead_code)]
+        pub const $name: c_uint = $number;
     )*};
 }
 
-handles! { Keeper Cpu Local }
-
-// SAFETY: a shared reference to a handle gives nothing but whether it is empty; every call takes it by a pointer to a value that is owned.
-unsafe impl Sync for Local {}
-
-/// A struct has so many words of 64 bits, in C as here.
-macro_rules! words {
-    ($($name:ty: $words:expr),*) => {
-        $(const _: () = assert!(std::mem::size_of::<$name>() == 8 * ($words));)*
+macro_rules! calls {
+    ($(fn $name:ident($($given:ident: $type:ty),*) $(-> $result:ty)?;)*) => {
+        #[allow(dead_code)]
+        extern "C" {
+            $(pub fn $name($($given: $type),*) $(-> $result)?;)*
+        }
     };
 }
 
-/// Structs, with the words that each has.
-macro_rules! structs {
-    ($($(#[$meta:meta])* $name:ident: $words:expr, $($field:ident: $type:ty),*;)*) => {$(
-        #[repr(C)]
-        #[derive(Clone, Copy)]
-        $(#[$meta])*
-        pub struct $name {
-            $(pub $field: $type,)*
-        }
+use calls as texts;
 
-        words! { $name: $words }
-    )*};
+include!("calls.rs");
+
+/// A handle: the one word is never looked into, and the value is moved and never copied.
+#[repr(C)]
+pub struct Handle<Of> {
+    at: *mut c_void,
+    of: PhantomData<Of>,
 }
 
-structs! {
-    #[derive(Debug, PartialEq, Eq, Hash, PartialOrd, Ord, Default)]
-    Name: 2, high: u64, low: u64;
-    Settings: 6, cpus: u64, slots: u64, change_limit: u64, section_limit: u64, passive_limit: u64, count_limit: u64;
-    #[derive(Default)]
-    Entry: 6, number: u64, slot: u64, kind: u64, name: Name, value: u64;
-    #[derive(Default)]
-    Stage: 2, stage: u64, what: u64;
-    Balance: 4 + MOST_CPUS, number: u64, slot: u64, held: i64, locals: [i64; MOST_CPUS], total: i64;
-    Wait: 2 * MOST_CPUS + MOST_SLOTS + 1, snapshots: [u64; MOST_CPUS], retired: [u64; MOST_SLOTS], seen: [u64; MOST_CPUS], begun: u64;
+/// What a handle is of.
+pub enum OfKeeper {}
+pub enum OfCpu {}
+
+pub type Keeper = Handle<OfKeeper>;
+pub type Cpu = Handle<OfCpu>;
+
+impl<Of> Handle<Of> {
+    pub const EMPTY: Handle<Of> = Handle { at: ptr::null_mut(), of: PhantomData };
+
+    pub fn is_empty(&self) -> bool {
+        self.at.is_null()
+    }
 }
 
-words! { Keeper: 1, Cpu: 1, Local: 1, Limits: 6 }
+// SAFETY: kupaldiz(7) says that a handle goes to another thread by a lock, or by the start or the
+// join of a thread; in Rust a value goes by nothing less.
+unsafe impl<Of> Send for Handle<Of> {}
+
+#[repr(C)]
+#[derive(Clone, Copy, Debug, PartialEq, Eq, Hash, PartialOrd, Ord, Default)]
+pub struct Name {
+    pub high: u64,
+    pub low: u64,
+}
+
+#[repr(C)]
+pub struct Settings {
+    pub cpus: u64,
+    pub slots: u64,
+    pub change_limit: u64,
+    pub section_limit: u64,
+    pub passive_limit: u64,
+    pub count_limit: u64,
+}
+
+#[repr(C)]
+#[derive(Clone, Copy, Default)]
+pub struct Entry {
+    pub number: u64,
+    pub slot: u64,
+    pub kind: c_uint,
+    pub name: Name,
+    pub value: u64,
+}
+
+#[repr(C)]
+#[derive(Default)]
+pub struct Passive {
+    pub entry: Entry,
+    pub cpu: u64,
+}
+
+/// A local reference. It is moved and never copied, but by `kupaldiz_copy_local`.
+#[repr(C)]
+pub struct Local {
+    pub entry: Entry,
+    at: [*mut c_void; 2],
+}
+
+impl Local {
+    pub fn empty() -> Local {
+        Local { entry: Entry::default(), at: [ptr::null_mut(); 2] }
+    }
+
+    pub fn is_empty(&self) -> bool {
+        self.entry.number == 0
+    }
+}
+
+// SAFETY: as of a handle.
+unsafe impl Send for Local {}
+
+#[repr(C)]
+#[derive(Clone, Copy, Default)]
+pub struct Met {
+    pub stage: c_uint,
+    pub what: u64,
+}
+
+#[repr(C)]
+#[derive(Clone, Copy)]
+pub struct Balance {
+    pub number: u64,
+    pub slot: u64,
+    pub held: i64,
+    pub locals: [i64; MOST_CPUS],
+    pub total: i64,
+}
+
+#[repr(C)]
+pub struct Wait {
+    snapshots: [u64; MOST_CPUS],
+    retired: [u64; MOST_SLOTS],
+    begun: u64,
+    seen: [bool; MOST_CPUS],
+}
+
+/// Whether a type has so many words of 64 bits, as in C.
+#[allow(dead_code)] // The oldest compiler doesn't look into the constants below.
+const fn has_words<X>(words: usize) -> bool {
+    mem::size_of::<X>() == 8 * words
+}
+
+const _: () = assert!(has_words::<Keeper>(1) && has_words::<Cpu>(1) && has_words::<Name>(2));
+const _: () = assert!(has_words::<Entry>(6) && has_words::<Passive>(7) && has_words::<Local>(8));
+const _: () = assert!(has_words::<Settings>(6) && has_words::<Limits>(6) && has_words::<Met>(2));
+const _: () = assert!(has_words::<Balance>(4 + MOST_CPUS));
+const _: () = assert!(has_words::<Wait>(MOST_CPUS + MOST_SLOTS + 1 + (MOST_CPUS + 7) / 8));
 
 impl Balance {
     /// Not written yet.
-    pub const EMPTY: Balance = Balance { number: 0, slot: 0, held: 0, locals: [0; MOST_CPUS], total: 0 };
+    pub const EMPTY: Balance =
+        Balance { number: 0, slot: 0, held: 0, locals: [0; MOST_CPUS], total: 0 };
 }
 
 impl Wait {
     /// Not begun yet.
-    pub const EMPTY: Wait = Wait { snapshots: [0; MOST_CPUS], retired: [0; MOST_SLOTS], seen: [0; MOST_CPUS], begun: 0 };
+    pub const EMPTY: Wait = Wait {
+        snapshots: [0; MOST_CPUS],
+        retired: [0; MOST_SLOTS],
+        begun: 0,
+        seen: [false; MOST_CPUS],
+    };
 }
 
 /// A string of the library's.
@@ -102,55 +168,4 @@ impl Wait {
 pub unsafe fn string(at: *const c_char) -> &'static str {
     // SAFETY: as the caller says.
     unsafe { CStr::from_ptr(at) }.to_str().unwrap_or("")
-}
-
-extern "C" {
-    pub fn registry_strerror(answer: u32) -> *const c_char;
-    pub fn registry_version() -> *const c_char;
-    pub fn registry_limits(limits: *mut Limits);
-
-    pub fn registry_open(settings: *const Settings, keeper: *mut Keeper, cpus: *mut Cpu, count: usize) -> u32;
-    pub fn registry_close_cpu(cpu: *mut Cpu) -> u32;
-    pub fn registry_close_keeper(keeper: *mut Keeper) -> u32;
-
-    pub fn registry_enter(cpu: *mut Cpu) -> u32;
-    pub fn registry_exit(cpu: *mut Cpu) -> u32;
-    pub fn registry_depth(cpu: *mut Cpu, depth: *mut u64) -> u32;
-    pub fn registry_find(cpu: *mut Cpu, kind: u64, name: *const Name, found: *mut Entry) -> u32;
-    pub fn registry_walk(cpu: *mut Cpu, row: *mut Entry, room: usize, count: *mut usize) -> u32;
-
-    pub fn registry_acquire_entry(cpu: *mut Cpu, entry: *const Entry) -> u32;
-    pub fn registry_copy(cpu: *mut Cpu, number: u64) -> u32;
-    pub fn registry_held(cpu: *mut Cpu, number: u64, held: *mut bool) -> u32;
-    pub fn registry_release(cpu: *mut Cpu, number: u64) -> u32;
-
-    pub fn registry_look_up(cpu: *mut Cpu, kind: u64, name: *const Name, found: *mut Entry) -> u32;
-    pub fn registry_get(cpu: *mut Cpu, kind: u64, name: *const Name, found: *mut Entry) -> u32;
-    pub fn registry_enter_find(cpu: *mut Cpu, kind: u64, name: *const Name, found: *mut Entry) -> u32;
-
-    pub fn registry_local_acquire_entry(cpu: *mut Cpu, entry: *const Entry, local: *mut Local) -> u32;
-    pub fn registry_local_release(cpu: *mut Cpu, local: *mut Local) -> u32;
-    pub fn registry_local_give_up(keeper: *mut Keeper, local: *mut Local) -> u32;
-    pub fn registry_local_forget(local: *mut Local) -> u32;
-
-    pub fn registry_attach(keeper: *mut Keeper, cpu: *mut Cpu, name: *const Name, value: u64, new: *mut Entry) -> u32;
-    pub fn registry_attach_iface(keeper: *mut Keeper, cpu: *mut Cpu, on: *mut Local, name: *const Name, value: u64, new: *mut Entry)
-        -> u32;
-    pub fn registry_replace(keeper: *mut Keeper, cpu: *mut Cpu, name: *const Name, value: u64, old: *mut Entry, new: *mut Entry) -> u32;
-    pub fn registry_replace_iface(
-        keeper: *mut Keeper,
-        cpu: *mut Cpu,
-        on: *mut Local,
-        name: *const Name,
-        value: u64,
-        old: *mut Entry,
-        new: *mut Entry,
-    ) -> u32;
-    pub fn registry_detach(keeper: *mut Keeper, cpu: *mut Cpu, kind: u64, name: *const Name, old: *mut Entry) -> u32;
-
-    pub fn registry_advance(keeper: *mut Keeper, number: u64, met: *mut Stage) -> u32;
-    pub fn registry_destroy(keeper: *mut Keeper, cpu: *mut Cpu, number: u64, met: *mut Stage) -> u32;
-    pub fn registry_perform_begin(keeper: *mut Keeper, cpu: *mut Cpu, wait: *mut Wait) -> u32;
-    pub fn registry_perform_turn(keeper: *mut Keeper, cpu: *mut Cpu, wait: *mut Wait, waited: *mut u64) -> u32;
-    pub fn registry_audit(keeper: *mut Keeper, cpus: *mut Cpu, count: usize, list: *mut Balance, room: usize, length: *mut usize) -> u32;
 }

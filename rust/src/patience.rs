@@ -4,11 +4,13 @@ use std::hint;
 use std::thread;
 use std::time::{Duration, Instant};
 
-/// How long [`Retired::destroy`](crate::Retired::destroy) and [`Registry::perform`](crate::Registry::perform) keep trying. Each tries at least once. One
-/// try is a turn. Between two turns the call holds no lock, and waits as `registry_destroy_wait` does, in this order:
+/// How long [`Retired::destroy`](crate::Retired::destroy) and
+/// [`Cpu::synchronize`](crate::Cpu::synchronize) keep trying. They also take a [`Duration`] or an
+/// [`Instant`]. Each tries at least once. One try is a turn. Between two turns the call holds no
+/// lock, and waits as `kupaldiz_destroy_wait` does, in this order:
 ///
-/// 1. It spins 16 times, for 1, 2, 4, .. 256 and then 256 pause instructions: 2,303 in all, some 90 microseconds. If a reader's thread runs, its
-///    section is over by then.
+/// 1. It spins 16 times, for 1, 2, 4, .. 256 and then 256 pause instructions: 2,303 in all, some 90
+///    microseconds. If a reader's thread runs, its section is over by then.
 /// 2. It yields 8 times: the reader's thread may wait for this processor.
 /// 3. It sleeps, for 16 microseconds at first, twice as long each time, 8 milliseconds at most.
 #[derive(Clone, Copy, Debug, PartialEq, Eq, Hash)]
@@ -16,20 +18,35 @@ use std::time::{Duration, Instant};
 pub enum Patience {
     /// Try this many times. 0 means 1.
     Turns(u32),
-    /// Keep trying until this time has come. The call looks at the clock after each try that fails.
+    /// Keep trying until this time has come. The call looks at the clock after each try that
+    /// fails.
     Until(Instant),
     /// Keep trying until the call is done.
     Forever,
 }
 
 impl Patience {
-    /// Keep trying until this much time from now has passed. It is `Forever` if no [`Instant`] is that late.
+    /// Keep trying until this much time from now has passed. It is `Forever` if no [`Instant`] is
+    /// that late.
     #[must_use]
     pub fn at_most(time: Duration) -> Patience {
         match Instant::now().checked_add(time) {
             Some(deadline) => Patience::Until(deadline),
             None => Patience::Forever,
         }
+    }
+}
+
+impl From<Duration> for Patience {
+    /// As [`Patience::at_most`], from now on: a call that takes a time measures it from its begin.
+    fn from(time: Duration) -> Patience {
+        Patience::at_most(time)
+    }
+}
+
+impl From<Instant> for Patience {
+    fn from(deadline: Instant) -> Patience {
+        Patience::Until(deadline)
     }
 }
 
@@ -71,7 +88,8 @@ impl Pauses {
         Pauses { patience, made: 0 }
     }
 
-    /// Whether another turn may be made, after a pause that has passed then. Call it after each turn.
+    /// Whether another turn may be made, after a pause that has passed then. Call it after each
+    /// turn.
     pub fn another(&mut self) -> bool {
         self.made = self.made.saturating_add(1);
         let left = match self.patience {
@@ -105,11 +123,15 @@ mod tests {
     #[test]
     fn so_many_turns_are_made_and_one_at_least() {
         assert_eq!([0, 1, 2, 30].map(|count| turns(Patience::Turns(count), 100)), [1, 1, 2, 30]);
-        assert_eq!((turns(Patience::Forever, 30), turns(Patience::Until(Instant::now()), 100)), (30, 1));
+        assert_eq!(
+            (turns(Patience::Forever, 30), turns(Patience::Until(Instant::now()), 100)),
+            (30, 1)
+        );
         assert_eq!(Patience::at_most(Duration::MAX), Patience::Forever);
     }
 
-    /// However many turns were made, there is another one: no wait has a last turn but by what it was told.
+    /// However many turns were made, there is another one: no wait has a last turn but by what it
+    /// was told.
     #[test]
     fn a_wait_has_no_last_turn_of_its_own() {
         for made in [1_000, 100_000, 1_000_000, u32::MAX - 1, u32::MAX] {
@@ -126,7 +148,8 @@ mod tests {
         let began = Instant::now();
         let made = turns(Patience::at_most(Duration::from_millis(30)), usize::MAX);
         assert!(began.elapsed() >= Duration::from_millis(30));
-        // The first, sixteen after a spin, eight after a yield, and twelve after sleeps, which take 30 milliseconds or more.
+        // The first, sixteen after a spin, eight after a yield, and twelve after sleeps, which take
+        // 30 milliseconds or more.
         assert!(made <= 37, "{made} turns");
     }
 

@@ -1,5 +1,5 @@
-//! Who holds an entry, by place: what a registry that was opened by [`Registry::open_tracked`](crate::Registry::open_tracked) notes of each reference and
-//! section.
+//! Who holds an entry, by place: what a registry that was opened by
+//! [`Registry::open_tracked`](crate::Registry::open_tracked) notes of each reference and section.
 
 use crate::values::Entry;
 use std::collections::HashMap;
@@ -58,14 +58,20 @@ pub struct Holders {
 }
 
 impl fmt::Display for Holders {
-    /// Such as `2 local references: src/worker.rs:88 (thread "rx-1"), src/stats.rs:20`, and `nobody` if there is no place.
+    /// Such as `2 local references: src/worker.rs:88 (thread "rx-1"), src/stats.rs:20`, and
+    /// `nobody` if there is no place.
     fn fmt(&self, f: &mut fmt::Formatter<'_>) -> fmt::Result {
         if self.places.is_empty() {
             return f.write_str("nobody");
         }
         let mut before = "";
-        for (hold, name) in [(Hold::Section, "section"), (Hold::Passive, "passive reference"), (Hold::Local, "local reference")] {
-            let places: Vec<String> = self.places.iter().filter(|one| one.hold == hold).map(Place::to_string).collect();
+        for (hold, name) in [
+            (Hold::Section, "section"),
+            (Hold::Passive, "passive reference"),
+            (Hold::Local, "local reference"),
+        ] {
+            let places: Vec<String> =
+                self.places.iter().filter(|one| one.hold == hold).map(Place::to_string).collect();
             if !places.is_empty() {
                 let plural = if places.len() == 1 { "" } else { "s" };
                 write!(f, "{before}{} {name}{plural}: {}", places.len(), places.join(", "))?;
@@ -78,7 +84,13 @@ impl fmt::Display for Holders {
 
 impl Place {
     fn here(hold: Hold, cpu: u8, location: &'static Location<'static>) -> Place {
-        Place { hold, cpu, location, thread: thread::current().name().map(str::to_string), kept_by: None }
+        Place {
+            hold,
+            cpu,
+            location,
+            thread: thread::current().name().map(str::to_string),
+            kept_by: None,
+        }
     }
 }
 
@@ -86,8 +98,9 @@ impl Place {
 #[derive(Default)]
 pub struct Notes {
     last: u64,
-    /// By their tickets: the outermost section of a CPU by its number, and a reference by a greater one. Each with its stamp, and a reference with the number
-    /// of the entry that it is to.
+    /// By their tickets: the outermost section of a CPU by its number, and a reference by a
+    /// greater one. Each with its stamp, and a reference with the number of the entry that it
+    /// is to.
     held: HashMap<u32, (u64, Option<u64>, Place)>,
     /// When an entry was detached.
     detached: HashMap<u64, u64>,
@@ -100,7 +113,13 @@ impl Notes {
     }
 
     /// A reference was acquired to the entry with this number. Returns its ticket.
-    pub fn acquired(&mut self, hold: Hold, cpu: u8, number: u64, at: &'static Location<'static>) -> u32 {
+    pub fn acquired(
+        &mut self,
+        hold: Hold,
+        cpu: u8,
+        number: u64,
+        at: &'static Location<'static>,
+    ) -> u32 {
         loop {
             let stamp = self.stamp();
             let ticket = stamp as u32;
@@ -111,19 +130,38 @@ impl Notes {
         }
     }
 
+    /// The reference with this ticket, where it is noted, was cloned there.
+    pub fn cloned(&mut self, ticket: u32, at: &'static Location<'static>) -> u32 {
+        match self.held.get(&ticket) {
+            Some(&(_, Some(number), Place { hold, cpu, .. })) => {
+                self.acquired(hold, cpu, number, at)
+            }
+            _ => 0,
+        }
+    }
+
     /// A CPU is about to enter its outermost section.
     pub fn entered(&mut self, cpu: u8, at: &'static Location<'static>) {
         let stamp = self.stamp();
         self.held.insert(u32::from(cpu), (stamp, None, Place::here(Hold::Section, cpu, at)));
     }
 
-    /// The reference with this ticket is released, or the section of the CPU with this number has ended.
+    /// The reference with this ticket is released, or the section of the CPU with this number has
+    /// ended.
     pub fn ended(&mut self, ticket: u32) {
         self.held.remove(&ticket);
     }
 
-    /// An interface keeps the reference.
-    pub fn kept(&mut self, ticket: u32, iface: u64) {
+    /// The reference with this ticket has come to this place and this thread.
+    pub fn moved(&mut self, ticket: u32, at: &'static Location<'static>) {
+        if let Some((_, _, place)) = self.held.get_mut(&ticket) {
+            *place = Place::here(place.hold, place.cpu, at);
+        }
+    }
+
+    /// An interface keeps a reference to its driver, that its attach on this CPU acquired.
+    pub fn kept(&mut self, driver: u64, cpu: u8, at: &'static Location<'static>, iface: u64) {
+        let ticket = self.acquired(Hold::Local, cpu, driver, at);
         if let Some((_, _, place)) = self.held.get_mut(&ticket) {
             place.kept_by = Some(iface);
         }
@@ -143,8 +181,11 @@ impl Notes {
     /// Who holds an entry. A section that was entered after the detach doesn't.
     pub fn holders(&self, entry: &Entry) -> Holders {
         let detached = self.detached.get(&entry.number).copied().unwrap_or(u64::MAX);
-        let holds = |stamp: u64, number: Option<u64>| number.map_or(stamp < detached, |number| number == entry.number);
-        let mut held: Vec<_> = self.held.values().filter(|(stamp, number, _)| holds(*stamp, *number)).collect();
+        let holds = |stamp: u64, number: Option<u64>| {
+            number.map_or(stamp < detached, |number| number == entry.number)
+        };
+        let mut held: Vec<_> =
+            self.held.values().filter(|(stamp, number, _)| holds(*stamp, *number)).collect();
         held.sort_by_key(|(stamp, _, place)| (place.hold, *stamp));
         Holders { places: held.into_iter().map(|(_, _, place)| place.clone()).collect() }
     }

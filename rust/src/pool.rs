@@ -1,39 +1,41 @@
 //! CPUs that are lent, for programs with more threads than CPUs.
 
 use crate::cpu::Cpu;
-use crate::lock::{locked, Mutex, MutexGuard, Tasks};
-use crate::references::LocalRef;
-use crate::refusal::{LookUpError, Refusal};
-use crate::values::Kind;
-use crate::Name;
+use crate::error::CpusError;
+use crate::lock::{locked, Mutex, MutexGuard};
+use crate::shared::Shared;
+use crate::tasks::Tasks;
 use std::fmt;
 use std::future::Future;
 use std::marker::PhantomData;
 use std::ops::Deref;
 use std::panic::Location;
 use std::pin::Pin;
-use std::sync::{Condvar, PoisonError};
+use std::sync::atomic::{AtomicU64, Ordering};
+use std::sync::{Arc, Condvar, PoisonError};
 use std::task::{Context, Poll};
 use std::thread::{self, ThreadId};
 use std::time::Instant;
 
-/// CPUs of one registry that any thread may borrow, each for a call or a batch of calls. Threads use the pool by reference, and a `static` may have one.
-/// Lending and taking back take a lock each, so a single lookup is faster on a CPU that the thread keeps.
+/// CPUs of one registry that any thread may borrow, each for a batch of calls: for one call the
+/// registry [chooses one itself](crate::Registry::get). Threads use the pool by reference, and a
+/// `static` may have one. Lending and taking back take a lock each.
 ///
-/// A section or a [`PassiveRef`](crate::PassiveRef) on a lent CPU borrows the loan. To sleep, acquire a [`LocalRef`], and drop the loan.
+/// A section or a [`PassiveRef`](crate::PassiveRef) on a lent CPU borrows the loan. To sleep,
+/// acquire a [`LocalRef`](crate::LocalRef), and drop the loan.
 ///
-/// A thread needs one loan at a time. Name it by a `let`, and give it to each call: of two loans in one expression, the second would wait for the first for
-/// ever where the pool has one CPU. [`lend`](CpuPool::lend) panics then.
+/// A thread needs one loan at a time. Name it by a `let`, and give it to each call: of two loans in
+/// one expression, the second would wait for the first for ever where the pool has one CPU.
+/// [`lend`](CpuPool::lend) panics then.
 ///
 /// ```
-/// use kupaldiz::{CpuPool, Kind, Name, Registry, Settings};
+/// use kupaldiz::{CpuPool, Registry, Settings};
 ///
-/// let (registry, cpus) = Registry::open(Settings::new(2, 4)).unwrap();
-/// let wm = Name::parse("wm").unwrap();
-/// registry.attach(&cpus[0], &wm, 7).unwrap();
-/// let pool = CpuPool::new(cpus).unwrap();
+/// let registry = Registry::open(Settings::new(2, 4)).unwrap();
+/// registry.attach("wm", 7).unwrap();
+/// let pool = CpuPool::new(registry.cpus()).unwrap();
 /// let cpu = pool.lend();
-/// assert_eq!(*cpu.read(Kind::Driver, &wm).unwrap(), 7);
+/// assert_eq!(*cpu.read("wm").unwrap(), 7);
 /// drop(cpu);
 /// assert_eq!(pool.into_cpus().len(), 2);
 /// ```
@@ -41,7 +43,11 @@ pub struct CpuPool<T> {
     state: Mutex<State<T>>,
     returned: Condvar,
     /// Tasks that wait for a CPU: all are woken as one comes back.
-    tasks: Tasks,
+    tasks: Tasks<()>,
+    /// How many futures there were: the key of the next.
+    futures: AtomicU64,
+    /// The registry.
+    shared: Arc<Shared<T>>,
 }
 
 struct State<T> {
@@ -60,10 +66,14 @@ struct Loan {
 
 impl<T> State<T> {
     /// A CPU for this thread, if one is there.
-    fn lend<'pool>(&mut self, pool: &'pool CpuPool<T>, place: &'static Location<'static>) -> Option<Lent<'pool, T>> {
+    fn lend<'pool>(
+        &mut self,
+        pool: &'pool CpuPool<T>,
+        place: &'static Location<'static>,
+    ) -> Option<LentCpu<'pool, T>> {
         let cpu = self.idle.pop()?;
         self.loans.push(Loan { cpu: cpu.id(), thread: thread::current().id(), place });
-        Some(Lent { pool, cpu: Some(cpu), thread: PhantomData })
+        Some(LentCpu { pool, cpu: Some(cpu), thread: PhantomData })
     }
 
     /// The first loan that this thread has.
@@ -78,17 +88,20 @@ impl<T> CpuPool<T> {
     ///
     /// # Errors
     ///
-    /// `MissingCpu` if there is none, `OtherRegistry` if they aren't of one registry. The CPUs go back to their registries then.
-    pub fn new<C: IntoIterator<Item = Cpu<T>>>(cpus: C) -> Result<CpuPool<T>, Refusal> {
+    /// `MissingCpu` if there is none, `OtherRegistry` if they aren't of one registry. The CPUs go
+    /// back to their registries then.
+    pub fn new<C: IntoIterator<Item = Cpu<T>>>(cpus: C) -> Result<CpuPool<T>, CpusError> {
         let cpus: Vec<Cpu<T>> = cpus.into_iter().collect();
-        let first = cpus.first().ok_or(Refusal::MissingCpu)?;
-        if !cpus.iter().all(|cpu| cpu.is_of(first.shared())) {
-            return Err(Refusal::OtherRegistry);
+        let shared = Arc::clone(cpus.first().ok_or(CpusError::MissingCpu)?.shared());
+        if !cpus.iter().all(|cpu| cpu.is_of(&shared)) {
+            return Err(CpusError::OtherRegistry);
         }
         Ok(CpuPool {
             state: Mutex::new(State { loans: Vec::with_capacity(cpus.len()), idle: cpus }),
             returned: Condvar::new(),
             tasks: Tasks::default(),
+            futures: AtomicU64::new(0),
+            shared,
         })
     }
 
@@ -96,9 +109,10 @@ impl<T> CpuPool<T> {
     ///
     /// # Panics
     ///
-    /// If all are lent, and this thread has one of them: it would keep that while it waits. The text says where it was lent.
+    /// If all are lent, and this thread has one of them: it would keep that while it waits. The
+    /// text says where it was lent.
     #[track_caller]
-    pub fn lend(&self) -> Lent<'_, T> {
+    pub fn lend(&self) -> LentCpu<'_, T> {
         let lent = self.lend_by(Location::caller(), |state| {
             if let Some(&Loan { cpu, place, .. }) = state.of_this_thread() {
                 drop(state);
@@ -111,26 +125,28 @@ impl<T> CpuPool<T> {
 
     /// Lends a CPU, if one is there.
     #[track_caller]
-    pub fn try_lend(&self) -> Option<Lent<'_, T>> {
+    pub fn try_lend(&self) -> Option<LentCpu<'_, T>> {
         self.state().lend(self, Location::caller())
     }
 
     /// Lends a CPU. If all are lent, it waits until one comes back, or the time has come.
     #[track_caller]
-    pub fn lend_until(&self, deadline: Instant) -> Option<Lent<'_, T>> {
+    pub fn lend_until(&self, deadline: Instant) -> Option<LentCpu<'_, T>> {
         self.lend_by(Location::caller(), |state| {
-            let left = deadline.checked_duration_since(Instant::now()).filter(|left| !left.is_zero())?;
+            let left =
+                deadline.checked_duration_since(Instant::now()).filter(|left| !left.is_zero())?;
             let waited = self.returned.wait_timeout(state, left);
             Some(waited.unwrap_or_else(PoisonError::into_inner).0)
         })
     }
 
-    /// Lends a CPU as soon as one is there. Until then it waits by `wait`, which may give up. Another thread may take the CPU that came back.
+    /// Lends a CPU as soon as one is there. Until then it waits by `wait`, which may give up.
+    /// Another thread may take the CPU that came back.
     fn lend_by<'pool>(
         &'pool self,
         place: &'static Location<'static>,
         mut wait: impl FnMut(Locked<'pool, T>) -> Option<Locked<'pool, T>>,
-    ) -> Option<Lent<'pool, T>> {
+    ) -> Option<LentCpu<'pool, T>> {
         let mut state = self.state();
         loop {
             match state.lend(self, place) {
@@ -140,28 +156,16 @@ impl<T> CpuPool<T> {
         }
     }
 
-    /// Lends a CPU for this call alone, and panics as [`lend`](CpuPool::lend) does.
+    /// Lends a CPU to a task, which waits without occupying its thread. The loan stays on the
+    /// thread that polls: release it before the next `.await`. The task is woken as a CPU comes
+    /// back. Another task may take that before, and then it waits on.
     #[track_caller]
-    pub fn with<R>(&self, deed: impl FnOnce(&Cpu<T>) -> R) -> R {
-        deed(&self.lend())
-    }
-
-    /// A local reference, as [`Cpu::get_local`] returns it, or its error. A CPU is lent for this call alone: it panics as [`lend`](CpuPool::lend) does.
-    #[track_caller]
-    pub fn get_local(&self, kind: Kind, name: &Name) -> Result<LocalRef<T>, LookUpError> {
-        self.lend().get_local(kind, name)
-    }
-
-    /// Lends a CPU, if one is there. Else the task is woken as one comes back. Another task may take that before: poll again.
-    #[track_caller]
-    pub fn poll_lend(&self, context: &mut Context<'_>) -> Poll<Lent<'_, T>> {
-        let place = Location::caller();
-        self.tasks.poll(context.waker(), || self.state().lend(self, place))
-    }
-
-    /// Lends a CPU to a task, which waits without occupying its thread. The loan stays on the thread that polls: release it before the next `.await`.
-    pub fn lend_async(&self) -> impl Future<Output = Lent<'_, T>> {
-        LendFuture { pool: self }
+    pub fn lend_async(&self) -> impl Future<Output = LentCpu<'_, T>> {
+        LendFuture {
+            pool: self,
+            key: self.futures.fetch_add(1, Ordering::Relaxed),
+            place: Location::caller(),
+        }
     }
 
     fn state(&self) -> Locked<'_, T> {
@@ -184,20 +188,34 @@ impl<T> fmt::Debug for CpuPool<T> {
 /// A loan that is waited for.
 struct LendFuture<'pool, T> {
     pool: &'pool CpuPool<T>,
+    key: u64,
+    place: &'static Location<'static>,
 }
 
 impl<'pool, T> Future for LendFuture<'pool, T> {
-    type Output = Lent<'pool, T>;
+    type Output = LentCpu<'pool, T>;
 
-    fn poll(self: Pin<&mut Self>, context: &mut Context<'_>) -> Poll<Lent<'pool, T>> {
-        self.pool.poll_lend(context)
+    fn poll(self: Pin<&mut Self>, context: &mut Context<'_>) -> Poll<LentCpu<'pool, T>> {
+        let (pool, place) = (self.pool, self.place);
+        if let Some(lent) = pool.state().lend(pool, place) {
+            return Poll::Ready(lent);
+        }
+        pool.tasks.note(self.key, (), context.waker());
+        let lent = pool.state().lend(pool, place);
+        lent.map_or(Poll::Pending, Poll::Ready)
     }
 }
 
-/// A CPU that is lent, for the thread that has borrowed it. Dropping it returns the CPU, outside of any section. If it is forgotten, the CPU is lost to the
-/// pool and to its registry.
+impl<T> Drop for LendFuture<'_, T> {
+    fn drop(&mut self) {
+        self.pool.tasks.forget(self.key);
+    }
+}
+
+/// A CPU that is lent, for the thread that has borrowed it. Dropping it returns the CPU, outside of
+/// any section. If it is forgotten, the CPU is lost to the pool and to its registry.
 #[must_use = "a CPU that is dropped at once is back in its pool"]
-pub struct Lent<'pool, T> {
+pub struct LentCpu<'pool, T> {
     pool: &'pool CpuPool<T>,
     /// There until it is dropped.
     cpu: Option<Cpu<T>>,
@@ -205,7 +223,7 @@ pub struct Lent<'pool, T> {
     thread: PhantomData<*const ()>,
 }
 
-impl<T> Lent<'_, T> {
+impl<T> LentCpu<'_, T> {
     /// Exits all sections that are still open, as [`Cpu::leave`] does: their guards were forgotten.
     pub fn leave(&mut self) {
         if let Some(cpu) = &mut self.cpu {
@@ -214,13 +232,13 @@ impl<T> Lent<'_, T> {
     }
 }
 
-impl<T> AsRef<Cpu<T>> for Lent<'_, T> {
+impl<T> AsRef<Cpu<T>> for LentCpu<'_, T> {
     fn as_ref(&self) -> &Cpu<T> {
         self
     }
 }
 
-impl<T> Deref for Lent<'_, T> {
+impl<T> Deref for LentCpu<'_, T> {
     type Target = Cpu<T>;
 
     #[inline]
@@ -229,23 +247,27 @@ impl<T> Deref for Lent<'_, T> {
     }
 }
 
-impl<T> Drop for Lent<'_, T> {
+impl<T> Drop for LentCpu<'_, T> {
     fn drop(&mut self) {
         if let Some(mut cpu) = self.cpu.take() {
-            cpu.leave();
-            let mut state = self.pool.state();
-            state.loans.retain(|loan| loan.cpu != cpu.id());
+            let (pool, id, was_inside) = (self.pool, cpu.id(), cpu.is_inside());
+            cpu.exit_all();
+            let mut state = pool.state();
+            state.loans.retain(|loan| loan.cpu != id);
             state.idle.push(cpu);
             drop(state);
-            self.pool.tasks.wake();
-            self.pool.returned.notify_one();
+            pool.returned.notify_one();
+            pool.tasks.wake(|_, ()| true);
+            if was_inside {
+                pool.shared.tasks.wake(|_, until| until.is_of_cpu(id));
+            }
         }
     }
 }
 
-impl<T> fmt::Debug for Lent<'_, T> {
+impl<T> fmt::Debug for LentCpu<'_, T> {
     fn fmt(&self, f: &mut fmt::Formatter<'_>) -> fmt::Result {
-        f.debug_tuple("Lent").field(&**self).finish()
+        f.debug_tuple("LentCpu").field(&**self).finish()
     }
 }
 
@@ -258,7 +280,7 @@ mod tests {
     use std::time::Duration;
 
     fn pool() -> CpuPool<()> {
-        CpuPool::new(Registry::open(Settings::new(1, 1)).unwrap().1).unwrap()
+        CpuPool::new(Registry::open(Settings::new(1, 1)).unwrap().cpus()).unwrap()
     }
 
     #[test]
@@ -289,7 +311,8 @@ mod tests {
             let lent = pool.lend_by(Location::caller(), |state| {
                 let _ = to.send(());
                 thread::sleep(Duration::from_millis(20));
-                let (state, waited) = pool.returned.wait_timeout(state, Duration::from_secs(20)).unwrap();
+                let (state, waited) =
+                    pool.returned.wait_timeout(state, Duration::from_secs(20)).unwrap();
                 (!waited.timed_out()).then_some(state)
             });
             assert!(lent.is_some(), "nobody woke this thread");

@@ -2,10 +2,12 @@
 
 use crate::carried::{Carried, Plain};
 use crate::cpu::Cpu;
+use crate::error::{text, DestroyError, Refused, ShownWith};
+use crate::ffi;
 use crate::patience::{Patience, Pauses};
-use crate::refusal::{DestroyError, Refused, ShownWith};
 use crate::registry::Registry;
 use crate::shared::Shared;
+use crate::tasks::Until;
 use crate::values::{Entry, Freed, Holder, Met};
 use std::fmt;
 use std::future::Future;
@@ -13,24 +15,45 @@ use std::pin::Pin;
 use std::sync::Arc;
 use std::task::{Context, Poll};
 
-/// An entry that was detached: [`Registry::detach`] returns it. It keeps its value until nothing holds it and it is freed. [`destroy`](Retired::destroy) and
-/// [`wait`](Retired::wait) wait for that, and so does an `.await`; [`advance`](Retired::advance) doesn't. Dropping it is the same as
-/// [`defer`](Retired::defer).
+/// What a destroy returns: what it freed, or its error with the [`Retired`].
+pub type Destroyed<T> = Result<Freed<T>, Refused<DestroyError, Retired<T>>>;
+
+/// An entry that was detached: [`Registry::detach`] returns it. It keeps its value until nothing
+/// holds it and it is freed. There are three ways: [`destroy`](Retired::destroy) waits for that, so
+/// does an `.await`, and [`Registry::retire`] leaves it to later calls, as dropping this does.
 ///
-/// It co-owns its registry. It may be stored, and go to other threads. Its value waits for it, but its slot doesn't: an attach that needs the slot frees the
-/// entry, if nothing holds it.
+/// It co-owns its registry. It may be stored, and go to other threads. Its value waits for it, but
+/// its slot doesn't: an attach that needs the slot frees the entry, if nothing holds it. Until the
+/// value of an interface is returned or dropped, that of its driver isn't either.
+///
+/// ```
+/// use kupaldiz::{Registry, Settings};
+/// use std::time::Duration;
+///
+/// let registry = Registry::open(Settings::new(1, 1)).unwrap();
+/// registry.attach("wm", "seven").unwrap();
+/// let held = registry.get("wm").unwrap();
+/// let retired = registry.detach("wm").unwrap();
+/// let refused = retired.destroy(Duration::from_millis(1)).unwrap_err();
+/// drop(held);
+/// assert_eq!(refused.given.destroy(Duration::from_secs(1)).unwrap().value, "seven");
+/// ```
 ///
 /// # As a future
 ///
-/// An `.await` returns the [`Freed`], and needs no CPU and no runtime. A poll makes one turn. If something holds the entry, the poll notes the task and makes
-/// a second turn. The tasks of a registry are woken by each call that lets something go: a section's exit, a release or a drop of a reference, a lookup's
-/// end, and a turn that frees an entry. That call takes a short lock and calls the wakers; where no task waits, it does neither. A task whose entry is held
-/// by what was forgotten, or by what the task itself keeps, isn't woken. A future that is dropped [defers](Retired::defer) its entry.
+/// An `.await` returns the [`Freed`], and needs no CPU and no runtime. A poll makes one turn. If
+/// something holds the entry, the poll notes the task with that, and makes one or two more turns.
+/// The task is woken by the call that [lets it go](crate#your-code-in-a-call). While a task waits,
+/// each exit of a section, each drop or release of a reference and each lookup takes a short lock
+/// to see whether it is meant; where none waits, it reads a flag. A task whose entry is
+/// held by what was forgotten, or by what the task itself keeps, isn't woken. A future that is
+/// dropped [defers](Retired::defer) its entry.
 #[must_use = "an entry that nobody destroys or defers by name is deferred as this is dropped"]
 pub struct Retired<T> {
     /// None once its value was taken, which a future may outlive.
     shared: Option<Arc<Shared<T>>>,
-    /// What the entry carries, with the entry beside it. A token is no longer than this: it is moved at each turn.
+    /// What the entry carries, with the entry beside it. A token is no longer than this: it is
+    /// moved at each turn.
     carried: Carried<T>,
 }
 
@@ -49,8 +72,9 @@ impl<T> Retired<T> {
     #[inline]
     fn plain(&self) -> Plain {
         self.shared();
-        // SAFETY: an attach noted the entry, under the interlock, before the detach. Its value is taken by this token, or after this token has deferred
-        // it, and each of these takes `shared` away.
+        // SAFETY: an attach noted the entry, under the interlock, before the detach. Its value is
+        // taken by this token, or after this token has deferred it, and each of these takes
+        // `shared` away.
         unsafe { self.carried.plain() }
     }
 
@@ -60,7 +84,7 @@ impl<T> Retired<T> {
     ///
     /// This and all other calls panic, if the future has returned the value.
     pub fn entry(&self) -> Entry {
-        self.plain().entry()
+        self.plain().entry(self.shared().id)
     }
 
     /// The registry that it is of.
@@ -68,100 +92,119 @@ impl<T> Retired<T> {
         Registry::of(Arc::clone(self.shared()))
     }
 
-    /// Tries once to free it, and waits only for the interlock. If the turn meets no obstacle, it is freed and what it carried is returned. Nothing holds
-    /// a freed entry, now or later, as after [`destroy`](Retired::destroy).
+    /// Waits until nothing holds it, and frees it: `psref_target_destroy`, `localcount_drain`. What
+    /// it carried is returned. Nothing holds a freed entry, now or later. The call tries again and
+    /// again, as long as the [`Patience`] says, and needs no CPU.
+    ///
+    /// If this thread has a section open on any CPU, or any reference to the entry,
+    /// [`Patience::Forever`] waits for ever: [`destroy_on`](Retired::destroy_on) sees what is on a
+    /// CPU.
+    ///
+    /// # Errors
+    ///
+    /// `StillHeld` with what the last try met. The `Retired` is returned.
+    pub fn destroy(self, patience: impl Into<Patience>) -> Destroyed<T> {
+        self.destroy_while(None, patience.into(), || ())
+    }
+
+    /// Tries once, and waits only for the interlock: as with `Patience::Turns(1)`.
     ///
     /// # Errors
     ///
     /// `StillHeld` with the first obstacle. The `Retired` is returned.
     // Inlined, the token isn't moved: a turn that meets something takes a tenth less.
     #[inline(always)]
-    pub fn advance(self) -> Result<Freed<T>, Refused<DestroyError, Retired<T>>> {
+    pub fn try_destroy(self) -> Destroyed<T> {
         let done = self.turn();
         self.after(done)
     }
 
-    /// One turn without a CPU. Once it is done, `after` or the like follows.
-    #[inline(always)]
-    fn turn(&self) -> Result<Freed<T>, DestroyError> {
-        // SAFETY: no CPU is given.
-        unsafe { self.shared().turn(None, self.plain()) }.map_err(Met::refusal)
-    }
-
-    /// Waits until nothing holds it, and frees it: `psref_target_destroy`, `localcount_drain`. What it carried is returned. The call tries again and again to
-    /// free it, as long as the [`Patience`] says. After each try the CPU has seen every change so far.
-    ///
-    /// If this CPU itself has a passive reference to the entry, nothing can release it while this thread waits, so the call tries only once. It can't see
-    /// what this thread holds otherwise: a local reference; on another CPU a section or a passive reference. [`Patience::Forever`] waits for these for ever.
+    /// As [`destroy`](Retired::destroy), for a thread that has this CPU. If it has a section open
+    /// there, or a passive reference to the entry, nobody can end that while the thread waits: the
+    /// call says so at once.
     ///
     /// # Errors
     ///
-    /// `OtherRegistry`, `Inside`, `StillHeld` with this CPU's passive reference, otherwise with what the last try met. The `Retired` is
-    /// returned.
-    pub fn destroy(self, cpu: &Cpu<T>, patience: Patience) -> Result<Freed<T>, Refused<DestroyError, Retired<T>>> {
-        let done = self.destroy_by(cpu, patience);
+    /// `OtherRegistry`, `Inside`, `StillHeld` with this CPU's passive reference, otherwise with
+    /// what the last try met. The `Retired` is returned.
+    pub fn destroy_on(self, cpu: &Cpu<T>, patience: impl Into<Patience>) -> Destroyed<T> {
+        self.destroy_while(Some(cpu), patience.into(), || ())
+    }
+
+    /// The same, with something to do after each turn that fails.
+    pub(crate) fn destroy_while(
+        self,
+        cpu: Option<&Cpu<T>>,
+        patience: Patience,
+        meanwhile: impl FnMut(),
+    ) -> Destroyed<T> {
+        let done = self.destroy_by(cpu, patience, meanwhile);
         self.after(done)
     }
 
-    fn destroy_by(&self, cpu: &Cpu<T>, patience: Patience) -> Result<Freed<T>, DestroyError> {
-        if !cpu.is_of(self.shared()) {
-            return Err(DestroyError::OtherRegistry);
+    fn destroy_by(
+        &self,
+        cpu: Option<&Cpu<T>>,
+        patience: Patience,
+        mut meanwhile: impl FnMut(),
+    ) -> Result<Freed<T>, DestroyError> {
+        match cpu {
+            Some(cpu) if !cpu.is_of(self.shared()) => return Err(DestroyError::OtherRegistry),
+            Some(cpu) if cpu.is_inside() => return Err(DestroyError::Inside),
+            _ => (),
         }
         let (mut pauses, entry) = (Pauses::new(patience), self.plain());
         loop {
-            // SAFETY: the CPU is this thread's and of this registry, and its handle isn't empty.
-            let turned = unsafe { self.shared().turn(Some(cpu.handle()), entry) };
-            let refusal = match turned.map_err(Met::refusal) {
-                Err(DestroyError::StillHeld(_)) if cpu.holds(entry.number) => {
+            let refusal = match self.shared().turn(entry).map_err(Met::refusal) {
+                Err(refusal) => refusal,
+                Ok(freed) => return Ok(freed),
+            };
+            match cpu {
+                Some(cpu) if cpu.holds(entry.number) => {
                     return Err(DestroyError::StillHeld(Holder::Passive(cpu.id())));
                 }
-                Err(refusal @ DestroyError::StillHeld(_)) => refusal,
-                done => return done,
-            };
-            if !pauses.another() {
-                return Err(refusal);
+                _ if !pauses.another() => return Err(refusal),
+                Some(cpu) => cpu.release_dropped(),
+                None => (),
             }
-            cpu.release_dropped();
+            meanwhile();
         }
     }
 
-    /// Waits as [`destroy`](Retired::destroy) does, without a CPU. If this thread has a section open on any CPU, or any reference to the entry,
-    /// [`Patience::Forever`] waits for ever.
-    ///
-    /// # Errors
-    ///
-    /// `StillHeld` with what the last try met. The `Retired` is returned.
-    pub fn wait(mut self, patience: Patience) -> Result<Freed<T>, Refused<DestroyError, Retired<T>>> {
-        let mut pauses = Pauses::new(patience);
-        loop {
-            match self.advance() {
-                Err(held) if pauses.another() => self = held.given,
-                done => return done,
-            }
-        }
+    /// One turn. What it freed goes to `after`, or to `settle`.
+    #[inline(always)]
+    fn turn(&self) -> Result<Freed<T>, DestroyError> {
+        self.shared().turn(self.plain()).map_err(Met::refusal)
     }
 
     /// What a call returns that ended so.
     #[inline]
-    fn after(mut self, done: Result<Freed<T>, DestroyError>) -> Result<Freed<T>, Refused<DestroyError, Retired<T>>> {
+    fn after(mut self, done: Result<Freed<T>, DestroyError>) -> Destroyed<T> {
         match done {
             Ok(freed) => {
-                self.shared = None;
+                self.settle(&freed);
                 Ok(freed)
             }
             Err(refusal) => Err(Refused { refusal, given: self }),
         }
     }
 
-    /// Leaves it to later calls, as dropping it does. The call makes one turn on each entry that was deferred, waits for no reader, and [drops the
-    /// values](crate#what-is-dropped) that nothing holds any more.
+    /// The caller has the value: the token is spent, and then tasks are woken.
+    fn settle(&mut self, freed: &Freed<T>) {
+        if let Some(shared) = self.shared.take() {
+            shared.settle(&freed.entry);
+        }
+    }
+
+    /// Leaves it to later calls, as dropping it does. The call makes one turn on each entry that
+    /// was deferred, waits for no reader, and [drops the values](crate#what-is-dropped) that
+    /// nothing holds any more.
     pub fn defer(self) {}
 
     /// Defers it, and returns what is free.
     pub(crate) fn deferred(mut self) -> Vec<Freed<T>> {
-        let freed = self.shared().defer(self.plain());
-        self.shared = None;
-        freed
+        let entry = self.plain();
+        self.shared.take().map_or_else(Vec::new, |shared| shared.defer(entry))
     }
 }
 
@@ -172,12 +215,24 @@ impl<T> Future for Retired<T> {
     ///
     /// If it has returned the value before.
     fn poll(self: Pin<&mut Self>, context: &mut Context<'_>) -> Poll<Freed<T>> {
-        let token = self.get_mut();
-        let polled = token.shared().tasks.poll(context.waker(), || token.turn().ok());
-        if polled.is_ready() {
-            token.shared = None;
+        let (token, mut noted) = (self.get_mut(), None);
+        loop {
+            let until = match token.turn() {
+                Ok(freed) => {
+                    token.settle(&freed);
+                    return Poll::Ready(freed);
+                }
+                Err(DestroyError::StillHeld(holder)) => Until::of(holder, token.plain().slot()),
+                Err(_) => Until::Any,
+            };
+            if noted == Some(until) || noted == Some(Until::Any) {
+                return Poll::Pending;
+            }
+            // The turn after that shows what was let go before: tasks.rs.
+            let until = if noted.is_some() { Until::Any } else { until };
+            token.shared().tasks.note(token.plain().number, until, context.waker());
+            noted = Some(until);
         }
-        polled
     }
 }
 
@@ -202,10 +257,11 @@ impl<T> fmt::Debug for Retired<T> {
 
 impl<T> ShownWith<Retired<T>> for DestroyError {
     fn show(&self, retired: &Retired<T>, f: &mut fmt::Formatter<'_>) -> fmt::Result {
-        fmt::Display::fmt(self, f)?;
         match (self, retired.registry().holders(&retired.entry())) {
-            (DestroyError::StillHeld(_), Some(holders)) => write!(f, "; {holders}"),
-            _ => Ok(()),
+            (DestroyError::StillHeld(_), Some(holders)) if !holders.places.is_empty() => {
+                write!(f, "{}: {holders}", text(ffi::STILL_HELD))
+            }
+            _ => fmt::Display::fmt(self, f),
         }
     }
 }

@@ -1,22 +1,24 @@
 //! The size of a registry, the limits of a build, and the library's version.
 
+use crate::error::OpenError;
 use crate::ffi;
-use crate::refusal::Refusal;
 use std::thread::available_parallelism;
 
-/// The size of a registry, and the limits of its counts. Each method sets one limit and returns the settings.
+/// The size of a registry, and the limits of its counts. Each method sets one limit and returns the
+/// settings.
 ///
 /// ```
 /// use kupaldiz::{Registry, Settings};
 ///
-/// const SETTINGS: Settings = Settings::builder().cpus(2).slots(4).changes(100);
-/// let (registry, cpus) = Registry::<()>::open(SETTINGS).unwrap();
-/// assert_eq!((registry.settings(), cpus.len()), (Settings::new(2, 4).changes(100), 2));
+/// const SETTINGS: Settings = Settings::new(2, 4).changes(100);
+/// let registry = Registry::<()>::open(SETTINGS).unwrap();
+/// assert_eq!((registry.settings(), registry.cpus().len()), (SETTINGS, 2));
 /// ```
 #[derive(Clone, Copy, Debug, PartialEq, Eq, Hash)]
 #[non_exhaustive]
 pub struct Settings {
-    /// 1 to the most CPUs of [`LIMITS`](crate::LIMITS), whose fields bound all of these.
+    /// 1 to the most CPUs of [`LIMITS`](crate::LIMITS), whose fields bound all of these. If there
+    /// may be another one, the registry has it for its own calls.
     pub cpus: u8,
     /// Entries at a time, live and retired.
     pub slots: u8,
@@ -30,19 +32,9 @@ pub struct Settings {
     pub locals: u64,
 }
 
-/// Defines the methods that set one limit.
-macro_rules! limits {
-    ($($name:ident: $type:ty, $text:literal;)*) => {$(
-        #[doc = $text]
-        #[must_use]
-        pub const fn $name(self, most: $type) -> Settings {
-            Settings { $name: most, ..self }
-        }
-    )*};
-}
-
 impl Settings {
-    /// This many CPUs and slots, and the largest limits. [`Registry::open`](crate::Registry::open) checks them.
+    /// This many CPUs and slots, and the largest limits. [`Registry::open`](crate::Registry::open)
+    /// checks them.
     pub const fn new(cpus: u8, slots: u8) -> Settings {
         Settings {
             cpus,
@@ -54,23 +46,51 @@ impl Settings {
         }
     }
 
-    /// Eight CPUs and 32 slots, for the methods that follow: so no two numbers are swapped.
-    pub const fn builder() -> Settings {
-        Settings::new(8, 32)
+    /// This many CPUs.
+    #[must_use]
+    pub const fn cpus(self, cpus: u8) -> Settings {
+        Settings { cpus, ..self }
     }
 
-    limits! {
-        cpus: u8, "This many CPUs.";
-        slots: u8, "This many slots.";
-        changes: u64, "At most this many attaches and detaches in all.";
-        sections: u64, "At most this many outermost sections of each CPU.";
-        passives: u64, "At most this many passive references of each CPU to an entry.";
-        locals: u64, "At most this net count of each CPU's local references to an entry.";
+    /// This many slots.
+    #[must_use]
+    pub const fn slots(self, slots: u8) -> Settings {
+        Settings { slots, ..self }
+    }
+
+    /// At most this many attaches and detaches in all.
+    #[must_use]
+    pub const fn changes(self, changes: u64) -> Settings {
+        Settings { changes, ..self }
+    }
+
+    /// At most this many outermost sections of each CPU.
+    #[must_use]
+    pub const fn sections(self, sections: u64) -> Settings {
+        Settings { sections, ..self }
+    }
+
+    /// At most this many passive references of each CPU to an entry.
+    #[must_use]
+    pub const fn passives(self, passives: u64) -> Settings {
+        Settings { passives, ..self }
+    }
+
+    /// At most this net count of each CPU's local references to an entry.
+    #[must_use]
+    pub const fn locals(self, locals: u64) -> Settings {
+        Settings { locals, ..self }
+    }
+
+    /// The CPUs of the registry of C: one more, for the calls that choose one, unless there are
+    /// none or as many as there may be.
+    pub(crate) fn all_cpus(self) -> u8 {
+        self.cpus + u8::from((1..ffi::MOST_CPUS).contains(&usize::from(self.cpus)))
     }
 
     pub(crate) fn to_c(self) -> ffi::Settings {
         ffi::Settings {
-            cpus: u64::from(self.cpus),
+            cpus: u64::from(self.all_cpus()),
             slots: u64::from(self.slots),
             change_limit: self.changes,
             section_limit: self.sections,
@@ -88,7 +108,8 @@ impl Default for Settings {
     }
 }
 
-/// The limits of a build of the library: the largest [`Settings`](crate::Settings), and how deep a section may be nested.
+/// The limits of a build of the library: the largest [`Settings`](crate::Settings), and how deep a
+/// section may be nested.
 #[repr(C)]
 #[derive(Clone, Copy, Debug, PartialEq, Eq, Hash)]
 #[non_exhaustive]
@@ -107,9 +128,10 @@ pub struct Limits {
     pub depth: u64,
 }
 
-/// The limits that this crate was compiled for, by the archive's header `registry_limits.h`. With a library that has others nothing is opened:
-/// [`Registry::open`](crate::Registry::open) returns `OtherLimits`. If the most CPUs or the most slots are others, or the version is, the program doesn't
-/// even link.
+/// The limits that this crate was compiled for, by the archive's header `kupaldiz_limits.h`. With a
+/// library that has others nothing is opened: [`Registry::open`](crate::Registry::open) returns
+/// `OtherLimits`. If the most CPUs or the most slots are others, or the version is, the program
+/// doesn't even link.
 pub const LIMITS: Limits = Limits {
     cpus: ffi::MOST_CPUS as u64,
     slots: ffi::MOST_SLOTS as u64,
@@ -123,53 +145,45 @@ impl Limits {
     /// What the library returns of these as those that a program was compiled for.
     pub(crate) fn compared(&self) -> u32 {
         // SAFETY: the call reads the struct alone, which lies as in C.
-        unsafe { ffi::registry_built_for(self) }
+        unsafe { ffi::kupaldiz_built_for(self) }
     }
-}
-
-/// The limits that the library was built for.
-#[must_use]
-pub fn limits() -> Limits {
-    let mut limits = LIMITS;
-    // SAFETY: the call writes the struct alone, which lies as in C.
-    unsafe { ffi::registry_limits(&mut limits) };
-    limits
 }
 
 /// The version of the library, such as `"0.1.0"`.
 #[must_use]
 pub fn version() -> &'static str {
     // SAFETY: the call needs nothing.
-    let text = unsafe { ffi::registry_version() };
-    // SAFETY: registry.h says of it: "never freed and never written to".
+    let text = unsafe { ffi::kupaldiz_version() };
+    // SAFETY: kupaldiz.h says of it: "never freed and never written to".
     unsafe { ffi::string(text) }
 }
 
 /// The library is of this crate's version, else `OtherVersion`.
-pub(crate) fn check_version(library: &str) -> Result<(), Refusal> {
+pub(crate) fn check_version(library: &str) -> Result<(), OpenError> {
     if library.starts_with(ffi::VERSION) {
         Ok(())
     } else {
-        Err(Refusal::OtherVersion)
+        Err(OpenError::OtherVersion)
     }
 }
 
 #[cfg(test)]
 mod tests {
     use super::{check_version, version, Limits, LIMITS};
-    use crate::refusal::{checked, Refusal};
+    use crate::error::{checked, OpenError};
 
     #[test]
     fn another_version_is_refused() {
         assert_eq!([version(), "0.1.9", "0.1.0-rc1"].map(check_version), [Ok(()); 3]);
         for other in ["0.2.0", "0.10.0", "0.1", "1.1.0", "00.1.0", ""] {
-            assert_eq!(check_version(other), Err(Refusal::OtherVersion), "{other}");
+            assert_eq!(check_version(other), Err(OpenError::OtherVersion), "{other}");
         }
     }
 
     #[test]
     fn other_limits_than_the_librarys_are_refused() {
-        let compared = [LIMITS, Limits { depth: LIMITS.depth - 1, ..LIMITS }].map(|limits| checked(limits.compared()).map_err(Refusal::of));
-        assert_eq!(compared, [Ok(()), Err(Refusal::OtherLimits)]);
+        let compared = [LIMITS, Limits { depth: LIMITS.depth - 1, ..LIMITS }]
+            .map(|limits| checked(limits.compared()).map_err(OpenError::of));
+        assert_eq!(compared, [Ok(()), Err(OpenError::OtherLimits)]);
     }
 }

@@ -1,10 +1,10 @@
-//! What entries carry: each value is dropped once, not before nobody can hold its entry, and never under a lock. Also where a drop panics, calls the
-//! registry, or a handle is forgotten.
+//! What entries carry: each value is dropped once, not before nobody can hold its entry, and never
+//! under a lock. Also where a drop panics, calls the registry, or a handle is forgotten.
 
 mod common;
 
-use common::{detach, local, name, passive, patience, with_driver, Drops, Tracked, LONG};
-use kupaldiz::{Cpu, Holder, Kind, LocalRef, Patience, Registry, Retired, Settings};
+use common::{detach, local, name, opened, passive, patience, with_driver, Drops, Tracked, LONG};
+use kupaldiz::{Cpu, Holder, Kind, Patience, Registry, Retired, Settings};
 use std::cell::{Cell, RefCell};
 use std::mem;
 use std::panic::{catch_unwind, AssertUnwindSafe};
@@ -19,8 +19,8 @@ use std::time::Duration;
 fn what_is_left_is_dropped_at_the_closing() {
     let drops = Drops::default();
     let (registry, mut cpus) = with_driver(drops.make(0));
-    registry.attach(&cpus[0], &name("vga"), drops.make(1)).unwrap();
-    let (held, retired) = (local(&cpus[0], "wm"), registry.detach(&cpus[0], Kind::Driver, &name("vga")).unwrap());
+    cpus[0].attach("vga", drops.make(1)).unwrap();
+    let (held, retired) = (local(&cpus[0], "wm"), cpus[0].detach("vga").unwrap());
     let registry = registry.close(Patience::Turns(2)).unwrap_err().registry;
     assert!(registry == retired.registry() && registry == cpus[1].registry());
     drop((registry, cpus.pop()));
@@ -52,14 +52,14 @@ fn a_caller_may_hold_a_lock_that_a_drop_takes() {
     let (to, from) = channel();
     thread::spawn(move || {
         let count = Arc::new(Mutex::new(0));
-        let (registry, cpus) = Registry::open(Settings::new(2, 2)).unwrap();
-        let attach = |text| registry.attach(&cpus[0], &name(text), Locking(Arc::clone(&count))).is_ok();
+        let (registry, cpus) = opened(Settings::new(2, 2));
+        let attach = |text| cpus[0].attach(name(text), Locking(Arc::clone(&count))).is_ok();
         assert!(attach("d0") && attach("d1"));
         let section = cpus[1].enter().unwrap();
-        registry.detach(&cpus[0], Kind::Driver, &name("d0")).unwrap().defer();
+        cpus[0].detach("d0").unwrap().defer();
         section.exit();
         let locked = count.lock().unwrap();
-        let token = registry.detach(&cpus[0], Kind::Driver, &name("d1")).unwrap();
+        let token = cpus[0].detach("d1").unwrap();
         assert!(attach("d2") && attach("d3"));
         drop(locked);
         drop(token);
@@ -71,17 +71,141 @@ fn a_caller_may_hold_a_lock_that_a_drop_takes() {
     assert_eq!(from.recv_timeout(LONG), Ok((2, 4)));
 }
 
+/// The library of a plug-in, or an object of it, whose drop runs code of the library.
+#[derive(Clone, Copy, Debug, PartialEq)]
+enum Role {
+    Library,
+    Object,
+    Other,
+}
+
+struct Part {
+    role: Role,
+    dropped: Rc<RefCell<Vec<Role>>>,
+}
+
+impl Drop for Part {
+    fn drop(&mut self) {
+        self.dropped.borrow_mut().push(self.role);
+    }
+}
+
+type Plug = (Registry<Part>, Vec<Cpu<Part>>);
+
+/// What is done with a registry that has the library as `gz` and the object as `gz0`, in two or
+/// three slots.
+type End = fn(Plug, Box<dyn Fn(Role) -> Part>);
+
+/// Both are retired, and an attach has freed their slots if there are two.
+fn tokens((_registry, cpus): &Plug, make: &dyn Fn(Role) -> Part) -> (Retired<Part>, Retired<Part>) {
+    let object = cpus[0].detach((Kind::Iface, "gz0")).unwrap();
+    let library = cpus[0].detach("gz").unwrap();
+    let _ = cpus[0].attach("other", make(Role::Other)).map_err(common::why);
+    (object, library)
+}
+
+const ENDS: [(&str, End); 8] = [
+    ("the closing", |plug, _| drop(plug)),
+    ("a closing with a deferred object", |(registry, cpus), _| {
+        let held = cpus[0].get_local((Kind::Iface, "gz0")).map_err(common::why).ok();
+        cpus[0].detach((Kind::Iface, "gz0")).unwrap().defer();
+        drop(held);
+        drop((registry, cpus));
+    }),
+    ("a drain", |(_registry, cpus), _| {
+        let drained = cpus[0].drain(patience()).unwrap();
+        assert_eq!(
+            drained.freed.iter().map(|freed| freed.value.role).collect::<Vec<_>>(),
+            [Role::Object, Role::Library]
+        );
+    }),
+    ("a drain with a deferred object", |(_registry, cpus), _| {
+        let held = cpus[0].get_local((Kind::Iface, "gz0")).map_err(common::why).ok();
+        cpus[0].detach((Kind::Iface, "gz0")).unwrap().defer();
+        drop(held);
+        assert_eq!(cpus[0].drain(patience()).unwrap().freed.len(), 2);
+    }),
+    ("tokens", |plug, make| {
+        let (object, library) = tokens(&plug, &make);
+        let library = library.try_destroy().map(drop).unwrap_err();
+        assert_eq!(library.refusal, kupaldiz::DestroyError::StillHeld(Holder::Local(1)));
+        drop(object);
+        assert_eq!(library.given.try_destroy().unwrap().value.role, Role::Library);
+    }),
+    ("tokens that are dropped", |plug, make| {
+        let (object, library) = tokens(&plug, &make);
+        drop(library);
+        assert_eq!((plug.0.free_deferred().len(), plug.0.deferred()), (0, 1));
+        drop(object.try_destroy().map_err(common::why).unwrap());
+        assert_eq!(plug.0.free_deferred().len(), 1);
+    }),
+    ("a collect of both", |plug, make| {
+        let section = plug.1[1].enter().unwrap();
+        let (object, library) = tokens(&plug, &make);
+        drop((library, object));
+        section.exit();
+        assert_eq!(
+            plug.0.free_deferred().iter().map(|freed| freed.value.role).collect::<Vec<_>>(),
+            [Role::Object, Role::Library]
+        );
+    }),
+    ("an attach that fails with the last handle", |(registry, cpus), make| {
+        let driver = local(&cpus[0], "gz");
+        let refused = cpus[0].attach_iface("gz", "gz0", make(Role::Object)).unwrap_err();
+        drop(cpus[0].detach((Kind::Iface, "gz0")).unwrap());
+        drop((registry, cpus));
+        drop((refused, driver));
+    }),
+];
+
+/// So a host may unload the library in the drop of the driver's value.
+#[test]
+fn a_value_of_a_driver_outlives_those_of_its_interfaces() {
+    for (what, slots, end) in
+        ENDS.iter().flat_map(|(what, end)| [2, 3].map(|slots| (what, slots, end)))
+    {
+        let dropped = Rc::new(RefCell::new(Vec::new()));
+        let all = Rc::clone(&dropped);
+        let make = move |role| Part { role, dropped: Rc::clone(&all) };
+        let (registry, cpus) = opened(Settings::new(2, slots));
+        cpus[0].attach("gz", make(Role::Library)).map_err(common::why).unwrap();
+        cpus[0].attach_iface("gz", "gz0", make(Role::Object)).map_err(common::why).unwrap();
+        end((registry, cpus), Box::new(make));
+        let dropped = dropped.borrow();
+        let last = |role| dropped.iter().rposition(|one| *one == role);
+        let libraries = dropped.iter().filter(|role| **role == Role::Library).count();
+        assert!(
+            libraries == 1
+                && last(Role::Object).is_some()
+                && last(Role::Object) < last(Role::Library),
+            "{what}, {slots} slots: {dropped:?}"
+        );
+    }
+}
+
+/// An interface that is never dropped keeps its driver's value for ever.
+#[test]
+fn a_forgotten_reference_to_an_interface_keeps_the_value_of_its_driver() {
+    let drops = Drops::default();
+    let (registry, cpus) = with_driver(drops.make(0));
+    cpus[0].attach_iface("wm", "wm0", drops.make(1)).unwrap();
+    cpus[0].attach("vga", drops.make(2)).unwrap();
+    mem::forget(cpus[1].get((Kind::Iface, "wm0")).unwrap());
+    drop((registry, cpus));
+    assert_eq!((drops.made(), drops.dropped()), (3, 1));
+}
+
 /// A section and a reference keep what they hold; so does a handle, of all entries.
 #[test]
 fn what_is_forgotten_keeps_its_value() {
     let drops = Drops::default();
     let (registry, mut cpus) = with_driver(drops.make(0));
-    registry.attach(&cpus[0], &name("vga"), drops.make(1)).unwrap();
+    cpus[0].attach("vga", drops.make(1)).unwrap();
     mem::forget(cpus[1].enter().unwrap());
     let reference = passive(&cpus[1], "wm");
     let kept: *const Tracked = &*reference;
     mem::forget(reference);
-    let mut gone = detach(&registry, &cpus[0], "wm");
+    let mut gone = detach(&cpus[0], "wm");
     assert_eq!(gone.holder(), Some(Holder::Grace(1)));
     cpus[1].leave();
     assert_eq!(gone.holder(), Some(Holder::Passive(1)));
@@ -94,10 +218,10 @@ fn what_is_forgotten_keeps_its_value() {
         match forgotten {
             0 => mem::forget(local(&cpus[0], "wm")),
             1 => mem::forget(cpus.remove(1)),
-            2 => mem::forget(registry.detach(&cpus[0], Kind::Driver, &name("wm")).unwrap()),
+            2 => mem::forget(cpus[0].detach("wm").unwrap()),
             _ => mem::forget(registry.clone()),
         }
-        assert_eq!((registry.collect().len(), registry.retired()), (0, 0));
+        assert_eq!((registry.free_deferred().len(), registry.deferred()), (0, 0));
     }
     assert_eq!(drops.dropped(), 1);
 }
@@ -108,100 +232,22 @@ fn a_panic_gives_all_back() {
     let drops = Drops::default();
     let (registry, cpus) = with_driver(drops.make(0));
     let held = |cpu: &Cpu<Tracked>| {
-        let (_local, _passive, _guard) = (local(cpu, "wm"), passive(cpu, "wm"), cpu.read(Kind::Driver, &name("wm")).unwrap());
+        let (_local, _passive, _guard) =
+            (local(cpu, "wm"), passive(cpu, "wm"), cpu.read("wm").unwrap());
         let _section = cpu.enter().unwrap();
         panic!("the body's own");
     };
     assert!(catch_unwind(AssertUnwindSafe(|| held(&cpus[1]))).is_err());
-    assert!(!cpus[1].is_inside() && !cpus[1].holds(1) && registry.audit(&cpus).unwrap()[0].held == 0);
+    assert!(
+        !cpus[1].is_inside() && !cpus[1].holds(1) && registry.audit(&cpus).unwrap()[0].held == 0
+    );
     let mut cpus = cpus;
     let cpu = cpus.remove(1);
     assert!(thread::spawn(move || held(&cpu)).join().is_err());
     let cpu = registry.cpu(1).unwrap();
     assert!(!cpu.is_inside() && !cpu.holds(1));
-    drop(detach(&registry, &cpu, "wm").freed());
+    drop(detach(&cpu, "wm").freed());
     assert_eq!(drops.dropped(), 1);
-}
-
-/// Panics as it is dropped, once.
-struct Fragile {
-    _tracked: Tracked,
-    panics: bool,
-}
-
-impl Drop for Fragile {
-    fn drop(&mut self) {
-        if mem::take(&mut self.panics) {
-            panic!("a drop's own");
-        }
-    }
-}
-
-#[test]
-fn a_panic_of_a_drop_leaves_the_registry_whole() {
-    let drops = Drops::default();
-    let fragile = |panics| Fragile { _tracked: drops.make(0), panics };
-    let (registry, cpus) = Registry::open(Settings::new(1, 4)).unwrap();
-    for (text, panics) in [("d0", false), ("d1", true), ("d2", false)] {
-        registry.attach(&cpus[0], &name(text), fragile(panics)).unwrap();
-    }
-    let held = local(&cpus[0], "d1");
-    registry.retire(&cpus[0], Kind::Driver, &name("d1")).unwrap();
-    LocalRef::release(held, &cpus[0]).unwrap();
-    // The drop of a token drops it, and the token's own value.
-    let token = registry.detach(&cpus[0], Kind::Driver, &name("d0")).unwrap();
-    assert!(catch_unwind(AssertUnwindSafe(|| drop(token))).is_err());
-    assert_eq!((registry.retired(), drops.dropped()), (0, 2));
-    registry.attach(&cpus[0], &name("d1"), fragile(true)).unwrap();
-    // A panic at the closing keeps nobody else from being dropped.
-    assert!(catch_unwind(AssertUnwindSafe(move || drop((registry, cpus)))).is_err());
-    assert_eq!((drops.made(), drops.dropped()), (4, 4));
-}
-
-thread_local! {
-    static DESK: RefCell<Option<(Registry<Caller>, Cpu<Caller>)>> = const { RefCell::new(None) };
-    static CALLS: Cell<u32> = const { Cell::new(0) };
-}
-
-/// Calls the registry as it is dropped: every call that takes the interlock. It may carry a reference of its own registry.
-struct Caller {
-    label: u32,
-    _driver: Option<LocalRef<Caller>>,
-}
-
-impl Drop for Caller {
-    fn drop(&mut self) {
-        DESK.with(|desk| {
-            if let Some((registry, cpu)) = &*desk.borrow() {
-                CALLS.with(|calls| calls.set(calls.get() + 1));
-                registry.perform(cpu, Patience::Turns(1)).unwrap();
-                drop(registry.collect());
-                if let Some(label) = self.label.checked_sub(1) {
-                    let text = format!("c{label}");
-                    registry.attach(cpu, &name(&text), Caller { label, _driver: None }).unwrap();
-                    drop(local(cpu, &text));
-                    registry.detach(cpu, Kind::Driver, &name(&text)).unwrap().defer();
-                }
-            }
-        });
-    }
-}
-
-/// Each value attaches the next one as it is dropped, and drops its token.
-#[test]
-fn a_drop_may_call_the_registry() {
-    let (registry, mut cpus) = Registry::open(Settings::new(2, 8)).unwrap();
-    let (cpu, other) = (cpus.remove(0), cpus.remove(0));
-    registry.attach(&cpu, &name("first"), Caller { label: 3, _driver: None }).unwrap();
-    let _driver = Some(local(&cpu, "first"));
-    registry.attach(&cpu, &name("second"), Caller { label: 0, _driver }).unwrap();
-    DESK.with(|place| *place.borrow_mut() = Some((registry.clone(), other)));
-    let mut first = detach(&registry, &cpu, "first");
-    assert_eq!(first.holder(), Some(Holder::Local(1)));
-    drop(registry.retire(&cpu, Kind::Driver, &name("second")).unwrap());
-    drop(first.freed());
-    assert_eq!((registry.retired(), CALLS.with(Cell::get)), (0, 5));
-    drop(DESK.with(|place| place.borrow_mut().take()));
 }
 
 /// Of any size and alignment, of one thread, and borrowed ones.
@@ -210,8 +256,8 @@ fn any_value_is_carried() {
     #[repr(align(256))]
     struct Wide(u8);
     fn carry<T>(value: T) -> T {
-        let (registry, cpus) = with_driver(value);
-        detach(&registry, &cpus[0], "wm").freed().value
+        let (_registry, cpus) = with_driver(value);
+        detach(&cpus[0], "wm").freed().value
     }
     let (_registry, cpus) = with_driver((Wide(9), [7u8; 4096]));
     let held = passive(&cpus[0], "wm");

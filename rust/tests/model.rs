@@ -1,25 +1,33 @@
 //! Random calls beside a plain model: each call returns what the model says.
 //!
-//! The limits are low, so that each refusal comes; every second registry notes places. Two of its CPUs are in a pool.
+//! The limits are low, so that each refusal comes; every second registry notes places. Two of its
+//! CPUs are in a pool, and one more is its own. Every other registry has many slots and
+//! names, and so many deferred entries, and many tasks that wait.
 
 mod common;
 
-use common::{name, scaled, Dice, Drops, Tracked};
+use common::{name, opened, scaled, Dice, Drops, Task, Tracked};
 use kupaldiz::{
-    Cpu, CpuPool, Entry, Found, Freed, Hold, Holder, Kind, Lent, LocalRef, Name, PassiveRef, Patience, ReadGuard, Refusal, Refused,
-    Registry, Retired, Section, Settings, LIMITS,
+    Cpu, CpuPool, Entry, Found, Freed, Hold, Holder, Kind, LentCpu, LocalRef, Name, PassiveRef,
+    Patience, ReadGuard, Refused, Registry, RegistryError, Retired, Section, Settings, LIMITS,
 };
-use std::cell::Cell;
-use std::collections::BTreeSet;
+use std::cell::RefCell;
+use std::cmp::Reverse;
+use std::collections::{BTreeSet, HashMap};
 use std::mem;
+use std::sync::Arc;
+use std::task::Poll;
 use std::time::Instant;
 
-/// So many CPUs have sections that stay open, and so many more are in the pool.
+/// So many CPUs have sections that stay open, and so many more are in the pool. The last one the
+/// crate chooses.
 const CPUS: usize = 3;
 const POOLED: usize = 2;
-const ALL: usize = CPUS + POOLED;
-const SLOTS: usize = 5;
-const NAMES: usize = 3;
+const CHOSEN: usize = CPUS + POOLED;
+const ALL: usize = CHOSEN + 1;
+/// Slots, and names of each kind.
+const FEW: (usize, usize) = (5, 3);
+const MANY: (usize, usize) = (40, 24);
 const DEEPEST: usize = 4;
 const KINDS: [Kind; 2] = [Kind::Driver, Kind::Iface];
 
@@ -28,20 +36,51 @@ struct Known {
     entry: Entry,
     label: u64,
     live: bool,
+    /// A walk meets a higher one first.
+    rank: u64,
     /// The number of the driver that an interface keeps, and the CPU that acquired the reference.
     driver: Option<(u64, usize)>,
     /// Of each CPU, which of its sections was open as the entry was detached.
     open: [Option<u64>; CPUS],
     /// Of each CPU, its acquires of local references less its releases.
     net: [i64; ALL],
-    /// How many references were dropped and aren't released.
-    dropped: usize,
+    /// The references that were dropped and aren't released, each by its place in `clones`.
+    dropped: Vec<usize>,
+}
+
+/// A local reference, with the CPU that acquired it, and its place in `clones`.
+struct Held {
+    local: LocalRef<Tracked>,
+    cpu: usize,
+    of: usize,
+}
+
+impl Held {
+    fn number(&self) -> u64 {
+        LocalRef::entry(&self.local).number
+    }
+}
+
+/// A token, and the task that awaits it, with what the entry was held by as it was polled.
+struct Token {
+    retired: Retired<Tracked>,
+    waits: Option<(Arc<Task>, Holder)>,
+}
+
+impl Token {
+    fn new(retired: Retired<Tracked>) -> Token {
+        Token { retired, waits: None }
+    }
+
+    fn number(&self) -> u64 {
+        self.retired.entry().number
+    }
 }
 
 /// What keeps a section open: a guard, or a section without one.
 type Open<'cpu> = Result<ReadGuard<'cpu, Tracked>, Section<'cpu, Tracked>>;
 
-type Told<R> = Result<R, Refusal>;
+type Told<R> = Result<R, RegistryError>;
 
 fn section<'open, 'cpu>(open: &'open Open<'cpu>) -> &'open Section<'cpu, Tracked> {
     open.as_ref().map_or_else(|section| section, ReadGuard::section)
@@ -64,23 +103,26 @@ struct Bench<'cpu> {
     settings: Settings,
     dice: Dice,
     open: Vec<Vec<Open<'cpu>>>,
-    /// How many sections each CPU has begun. A lookup of what it remembers is counted, too, and may begin none.
+    /// How many sections each CPU has begun. A lookup of what it remembers is counted, too, and
+    /// may begin none.
     begun: [u64; ALL],
     /// What each CPU has found last.
     last: [Option<u64>; ALL],
     passives: Vec<PassiveRef<'cpu, Tracked>>,
-    /// Each with the CPU that acquired it.
-    locals: Vec<(LocalRef<Tracked>, usize)>,
-    loans: Vec<Lent<'cpu, Tracked>>,
-    tokens: Vec<Retired<Tracked>>,
+    locals: Vec<Held>,
+    /// Of each reference that was acquired, how many there are with its clones.
+    clones: Vec<usize>,
+    loans: Vec<LentCpu<'cpu, Tracked>>,
+    tokens: Vec<Token>,
     deferred: Vec<u64>,
-    /// Deferred entries that an attach has freed.
-    waiting: Vec<u64>,
-    /// Entries with a token that an attach has freed.
-    taken: Vec<u64>,
     known: Vec<Known>,
+    /// What an attach has freed for its slot. The value is still there.
+    vacated: Vec<Known>,
+    names: usize,
     changes: u64,
     labels: u64,
+    /// The driver's label of each interface.
+    drivers: Vec<(u64, u64)>,
 }
 
 /// What the model says.
@@ -91,7 +133,7 @@ impl<'cpu> Bench<'cpu> {
 
     /// What a lookup returns.
     fn found(&self, kind: Kind, name: &Name) -> Told<Entry> {
-        self.live(kind, name).map(|one| one.entry).ok_or(Refusal::NotFound)
+        self.live(kind, name).map(|one| one.entry).ok_or(RegistryError::NotFound)
     }
 
     /// The same, which the CPU notes as its last.
@@ -118,144 +160,207 @@ impl<'cpu> Bench<'cpu> {
         self.is_inside(cpu) && (one.live || one.open[cpu] == Some(self.begun[cpu]))
     }
 
-    /// The CPUs that acquired the local references to an entry, and the interface that keeps one.
-    fn locals_to(&self, number: u64) -> Vec<(usize, Option<u64>)> {
-        let held = self.locals.iter().filter(|held| LocalRef::entry(&held.0).number == number);
-        let kept = self.known.iter().filter_map(|one| Some((one.driver?, one.entry.number)));
+    /// The CPUs that acquired the local references to an entry, the interface of these that keeps
+    /// one, and which was acquired, where it was by a caller.
+    fn locals_to<'a>(
+        &self,
+        number: u64,
+        kept_by: impl Iterator<Item = &'a Known>,
+    ) -> Vec<(usize, Option<u64>, Option<usize>)> {
+        let held = self.locals.iter().filter(|held| held.number() == number);
+        let kept = kept_by.filter_map(|one| Some((one.driver?, one.entry.number)));
         let kept = kept.filter(|(driver, _)| driver.0 == number);
-        held.map(|held| (held.1, None)).chain(kept.map(|((_, cpu), iface)| (cpu, Some(iface)))).collect()
+        held.map(|held| (held.cpu, None, Some(held.of)))
+            .chain(kept.map(|((_, cpu), iface)| (cpu, Some(iface), None)))
+            .collect()
     }
 
-    /// What holds a retired entry first.
-    fn holder(&self, number: u64) -> Option<Holder> {
-        let one = self.known.iter().find(|one| one.entry.number == number).expect("a known entry");
+    /// How many local references hold an entry: one with its clones is one.
+    fn held(&self, number: u64) -> usize {
+        self.locals_to(number, self.known.iter()).into_iter().collect::<BTreeSet<_>>().len()
+    }
+
+    /// What keeps the slot of a retired entry first.
+    fn keeps_slot(&self, number: u64) -> Option<Holder> {
+        let one = self.known.iter().find(|one| one.entry.number == number)?;
         let grace = (0..CPUS).find(|cpu| self.is_in_grace(*cpu, one));
         let passive = (0..CPUS).find(|cpu| self.passives_on(*cpu, number) > 0);
-        let locals = self.locals_to(number).len() as u64;
+        let locals = self.held(number) as u64;
         grace
             .map(|cpu| Holder::Grace(cpu as u8))
             .or(passive.map(|cpu| Holder::Passive(cpu as u8)))
             .or((locals > 0).then_some(Holder::Local(locals)))
     }
 
-    /// One turn frees the entry, or meets this. What was dropped is given up as soon as local references alone hold the entry.
-    fn turn(&mut self, number: u64) -> Option<Holder> {
-        let holder = self.holder(number);
-        if matches!(holder, Some(Holder::Local(_)) | None) {
-            self.known(number).dropped = 0;
+    /// What holds a retired entry first. The value of an interface holds that of its driver.
+    fn holder(&self, number: u64) -> Option<Holder> {
+        let values = self
+            .vacated
+            .iter()
+            .filter(|one| one.driver.map_or(false, |driver| driver.0 == number))
+            .count() as u64;
+        self.keeps_slot(number).or((values > 0).then_some(Holder::Local(values)))
+    }
+
+    /// The slot of an entry is vacant, if nothing keeps it.
+    fn vacate(&mut self, number: u64) {
+        if let (None, Some(place)) =
+            (self.keeps_slot(number), self.known.iter().position(|one| one.entry.number == number))
+        {
+            let one = self.known.remove(place);
+            self.vacated.push(one);
         }
+    }
+
+    /// One turn frees the entry, or meets this. What was dropped is given up as soon as local
+    /// references alone hold the entry.
+    fn turn(&mut self, number: u64) -> Option<Holder> {
+        if let (Some(Holder::Local(_)), Some(one)) =
+            (self.keeps_slot(number), self.known.iter_mut().find(|one| one.entry.number == number))
+        {
+            for of in one.dropped.drain(..) {
+                self.clones[of] -= 1;
+            }
+        }
+        self.vacate(number);
+        let holder = self.holder(number);
         if holder.is_none() {
-            self.known.retain(|one| one.entry.number != number);
+            self.vacated.retain(|one| one.entry.number != number);
             self.deferred.retain(|other| *other != number);
         }
         holder
     }
 
-    /// One turn for each deferred entry. What is freed by then.
+    /// One turn for each deferred entry, the youngest first. What is freed by then.
     fn collect(&mut self) -> Vec<u64> {
-        let mut freed = mem::take(&mut self.waiting);
-        for number in self.deferred.clone() {
-            if self.turn(number).is_none() {
-                freed.push(number);
-            }
-        }
-        freed
+        let mut numbers = self.deferred.clone();
+        numbers.sort_unstable_by_key(|number| Reverse(*number));
+        numbers.into_iter().filter(|number| self.turn(*number).is_none()).collect()
     }
 
     /// The CPU releases what was dropped, of this entry or of all.
     fn release_dropped(&mut self, cpu: usize, number: Option<u64>) {
         let is_meant = |one: &&mut Known| number.map_or(true, |number| one.entry.number == number);
         for one in self.known.iter_mut().filter(is_meant) {
-            one.net[cpu] -= mem::take(&mut one.dropped) as i64;
+            for of in one.dropped.drain(..) {
+                self.clones[of] -= 1;
+                one.net[cpu] -= i64::from(self.clones[of] == 0);
+            }
         }
     }
 
     /// What comes before a change.
     fn before_change(&mut self, cpu: usize) -> Told<()> {
         if self.is_inside(cpu) {
-            return Err(Refusal::Inside);
+            return Err(RegistryError::Inside);
         }
         self.release_dropped(cpu, None);
         Ok(())
     }
 
-    /// The slot that an attach gets. If none is vacant, one turn is made for each retired entry, the youngest first.
-    fn slot(&mut self) -> Told<u8> {
-        let vacant = |bench: &Self| (0..SLOTS as u8).find(|slot| bench.known.iter().all(|one| one.entry.slot != *slot));
-        if vacant(self).is_none() {
-            let mut retired: Vec<u64> = self.known.iter().filter(|one| !one.live).map(|one| one.entry.number).collect();
+    fn vacant(&self) -> Option<u8> {
+        (0..self.settings.slots).find(|slot| self.known.iter().all(|one| one.entry.slot != *slot))
+    }
+
+    /// What comes before an attach: if no slot is vacant, one turn is made for each retired entry,
+    /// the youngest first.
+    fn before_attach(&mut self, cpu: usize) -> Told<()> {
+        self.before_change(cpu)?;
+        if self.vacant().is_none() {
+            let retired = self.known.iter().filter(|one| !one.live).map(|one| one.entry.number);
+            let mut retired: Vec<u64> = retired.collect();
             retired.sort_unstable();
-            for number in retired.into_iter().rev() {
-                let is_deferred = self.deferred.contains(&number);
-                if self.turn(number).is_none() {
-                    let to = if is_deferred { &mut self.waiting } else { &mut self.taken };
-                    to.push(number);
-                }
-            }
+            retired.into_iter().rev().for_each(|number| self.vacate(number));
         }
+        Ok(())
+    }
+
+    /// The slot that an attach or a replacement gets.
+    fn slot(&self) -> Told<u8> {
         let live = self.known.iter().filter(|one| one.live).count() as u64;
-        match vacant(self) {
-            Some(_) if self.settings.changes - self.changes < live + 2 => Err(Refusal::HistoryFull),
+        match self.vacant() {
+            Some(_) if self.settings.changes - self.changes < live + 2 => {
+                Err(RegistryError::HistoryFull)
+            }
             Some(slot) => Ok(slot),
-            None => Err(Refusal::NoSlot),
+            None => Err(RegistryError::NoSlot),
         }
     }
 
-    fn attached(&mut self, entry: Entry, key: (Kind, Name), driver: Option<(u64, usize)>) {
+    /// An entry was attached, in the place of this one, if it replaced one.
+    fn attached(&mut self, entry: Entry, driver: Option<(u64, usize)>, old: Option<u64>) {
         self.changes += 1;
-        assert_eq!((entry.number, (entry.kind, entry.name)), (self.changes, key));
-        self.known.push(Known { entry, label: self.labels, live: true, driver, open: [None; CPUS], net: [0; ALL], dropped: 0 });
+        assert_eq!(entry.number, self.changes);
+        if let Some((number, cpu)) = driver {
+            let driver = self.known(number);
+            driver.net[cpu] += 1;
+            let of_driver = driver.label;
+            self.drivers.push((self.labels, of_driver));
+        }
+        let rank = old.map_or(entry.number, |old| self.known(old).rank);
+        self.known.push(Known {
+            entry,
+            label: self.labels,
+            live: true,
+            rank,
+            driver,
+            open: [None; CPUS],
+            net: [0; ALL],
+            dropped: Vec::new(),
+        });
     }
 
     fn detached(&mut self, number: u64) {
-        self.changes += 1;
         let open = [0, 1, 2].map(|cpu| self.is_inside(cpu).then(|| self.begun[cpu]));
         let one = self.known(number);
         (one.live, one.open) = (false, open);
     }
 
-    /// Whether a call that may begin a section has failed because the CPU has begun as many as it may.
+    /// Whether a call that may begin a section has failed because the CPU has begun as many as it
+    /// may.
     fn is_spent<R>(&mut self, cpu: usize, answer: &Told<R>) -> bool {
-        let is_refused = matches!(answer, Err(Refusal::SectionsSpent));
+        let is_refused = matches!(answer, Err(RegistryError::SectionsSpent));
         assert!(!is_refused || !self.is_inside(cpu) && self.begun[cpu] >= self.settings.sections);
         self.begun[cpu] += u64::from(!is_refused && !self.is_inside(cpu));
         is_refused
     }
 
-    /// The CPU looks an entry up once more that it found before, if it has found something else since.
+    /// The CPU looks an entry up once more that it found before, if it has found something else
+    /// since.
     fn seek(&mut self, cpu: usize, entry: Entry) -> Told<()> {
-        if self.last[cpu] == Some(entry.number) {
+        if self.last[cpu] == Some(entry.number)
+            || self.look(cpu, entry.kind, &entry.name) == Ok(entry)
+        {
             return Ok(());
         }
-        match self.look(cpu, entry.kind, &entry.name) {
-            Ok(again) if again == entry => Ok(()),
-            _ => {
-                self.last[cpu] = None;
-                Err(Refusal::NotFound)
-            }
-        }
+        Err(RegistryError::NotFound)
     }
 
     /// What an acquire of a found entry returns: a passive reference,
     fn passively(&mut self, cpu: usize, entry: Entry) -> Told<(usize, u64)> {
         match self.passives_on(cpu, entry.number) as u64 {
             0 => self.seek(cpu, entry)?,
-            count if count == self.settings.passives => return Err(Refusal::PassiveFull),
+            count if count == self.settings.passives => return Err(RegistryError::PassiveFull),
             _ => (),
         }
         Ok((cpu, entry.number))
     }
 
-    /// or a local one, after those to it that were dropped are released. At its limit the CPU looks the entry up once more.
+    /// or a local one, after those to it that were dropped are released.
     fn locally(&mut self, cpu: usize, entry: Entry) -> Told<Entry> {
         self.release_dropped(cpu, Some(entry.number));
-        let is_full = self.known(entry.number).net[cpu] == self.settings.locals as i64;
-        self.last[cpu] = self.last[cpu].filter(|_| !is_full);
         self.seek(cpu, entry)?;
-        if is_full {
-            return Err(Refusal::LocalFull);
+        self.count(cpu, entry)
+    }
+
+    /// The CPU counts a local reference to this entry.
+    fn count(&mut self, cpu: usize, entry: Entry) -> Told<Entry> {
+        let limit = self.settings.locals as i64;
+        let net = &mut self.known(entry.number).net[cpu];
+        if *net == limit {
+            return Err(RegistryError::LocalFull);
         }
-        self.known(entry.number).net[cpu] += 1;
+        *net += 1;
         Ok(entry)
     }
 }
@@ -275,8 +380,18 @@ impl<'cpu> Bench<'cpu> {
         (cpu, &self.cpus[cpu])
     }
 
+    /// A CPU, or the one that the crate chooses.
+    fn any_or_chosen(&mut self) -> (usize, Option<&'cpu Cpu<Tracked>>) {
+        let (at, cpu) = self.any_cpu();
+        if self.dice.below(4) == 0 {
+            (CHOSEN, None)
+        } else {
+            (at, Some(cpu))
+        }
+    }
+
     fn any_key(&mut self) -> (Kind, Name) {
-        (KINDS[self.dice.below(2)], any_name(self.dice.below(NAMES)))
+        (KINDS[self.dice.below(2)], any_name(self.dice.below(self.names)))
     }
 
     /// A passive reference, or the refusal that was expected.
@@ -287,7 +402,10 @@ impl<'cpu> Bench<'cpu> {
 
     fn keep_local(&mut self, got: Told<LocalRef<Tracked>>, cpu: usize, expected: Told<Entry>) {
         assert_eq!(got.as_ref().map(LocalRef::entry).map_err(|why| *why), expected);
-        self.locals.extend(got.map(|held| (held, cpu)));
+        if let Ok(local) = got {
+            self.locals.push(Held { local, cpu, of: self.clones.len() });
+            self.clones.push(1);
+        }
     }
 
     /// Any guard may go first: the section ends with the last.
@@ -301,9 +419,12 @@ impl<'cpu> Bench<'cpu> {
                 self.open[at].push(Err(section.unwrap()));
             }
         } else {
-            let guard = cpu.read(kind, &name).map_err(why);
+            let guard = cpu.read((kind, &name)).map_err(why);
             if !self.is_spent(at, &guard) {
-                assert_eq!(guard.as_ref().map(ReadGuard::entry).map_err(|why| *why), self.look(at, kind, &name));
+                assert_eq!(
+                    guard.as_ref().map(ReadGuard::entry).map_err(|why| *why),
+                    self.look(at, kind, &name)
+                );
                 self.open[at].extend(guard.map(Ok));
             }
         }
@@ -312,19 +433,23 @@ impl<'cpu> Bench<'cpu> {
 
     /// Looks two entries up in one section, and acquires the one that was found first.
     fn find_two(&mut self) {
-        let ((at, _), keys, passively) = (self.any_cpu(), [self.any_key(), self.any_key()], self.dice.below(2) == 0);
+        let ((at, _), keys, passively) =
+            (self.any_cpu(), [self.any_key(), self.any_key()], self.dice.below(2) == 0);
         let section = match self.open[at].last() {
             Some(open) => section(open),
             None => return,
         };
-        let found = keys.map(|(kind, name)| section.find(kind, &name));
+        let found = keys.map(|(kind, name)| section.find((kind, &name)));
         for (found, (kind, name)) in found.iter().zip(&keys) {
             let expected = self.live(*kind, name).map(|one| (one.entry, one.label));
             assert_eq!(found.as_ref().map(|found| (Found::entry(found), found.label)), expected);
         }
         let first = found.iter().flatten().next();
-        let passive = first.filter(|_| passively).map(|first| (Found::entry(first), Found::acquire(first)));
-        let local = first.filter(|_| !passively).map(|first| (Found::entry(first), Found::acquire_local(first)));
+        let passive =
+            first.filter(|_| passively).map(|first| (Found::entry(first), Found::acquire(first)));
+        let local = first
+            .filter(|_| !passively)
+            .map(|first| (Found::entry(first), Found::acquire_local(first)));
         self.last[at] = found[1].as_ref().map(|found| Found::entry(found).number);
         if let Some((entry, passive)) = passive {
             let expected = self.passively(at, entry);
@@ -336,18 +461,21 @@ impl<'cpu> Bench<'cpu> {
         }
     }
 
-    /// Acquires what a guard has found that is open for longer. Other entries were found since, or it was detached.
+    /// Acquires what a guard has found that is open for longer. Other entries were found since, or
+    /// it was detached.
     fn acquire_by_guard(&mut self) {
         let ((at, _), passively) = (self.any_cpu(), self.dice.below(2) == 0);
         let place = self.dice.below(self.open[at].len().max(1));
         match self.open[at].get(place) {
             Some(Ok(guard)) if passively => {
-                let (entry, got) = (ReadGuard::entry(guard), ReadGuard::acquire(guard).map_err(why));
+                let (entry, got) =
+                    (ReadGuard::entry(guard), ReadGuard::acquire(guard).map_err(why));
                 let expected = self.passively(at, entry);
                 self.keep(got, expected);
             }
             Some(Ok(guard)) => {
-                let (entry, got) = (ReadGuard::entry(guard), ReadGuard::acquire_local(guard).map_err(why));
+                let (entry, got) =
+                    (ReadGuard::entry(guard), ReadGuard::acquire_local(guard).map_err(why));
                 let expected = self.locally(at, entry);
                 self.keep_local(got, at, expected);
             }
@@ -358,49 +486,80 @@ impl<'cpu> Bench<'cpu> {
     fn walk(&mut self) {
         let (at, _) = self.any_cpu();
         if let Some(open) = self.open[at].first() {
-            let mut expected: Vec<_> = self.known.iter().filter(|one| one.live).map(|one| (one.entry, one.label)).collect();
-            expected.sort_by_key(|one| u64::MAX - one.0.number);
+            let mut live: Vec<_> = self.known.iter().filter(|one| one.live).collect();
+            live.sort_by_key(|one| Reverse(one.rank));
+            let expected: Vec<_> = live.iter().map(|one| (one.entry, one.label)).collect();
             let walk = section(open).entries();
             assert_eq!(walk.len(), expected.len());
-            assert_eq!(walk.map(|found| (Found::entry(&found), found.label)).collect::<Vec<_>>(), expected);
+            assert_eq!(
+                walk.map(|found| (Found::entry(&found), found.label)).collect::<Vec<_>>(),
+                expected
+            );
             self.last[at] = None;
         }
     }
 
-    /// By one call, or by a table's.
+    /// By one call.
     fn refer(&mut self) {
-        let ((at, cpu), (kind, name), way) = (self.any_cpu(), self.any_key(), self.dice.below(6));
-        let (is_table, table) = (kind == Kind::Driver && way < 3, cpu.table());
-        match way % 3 {
-            0 => {
-                let entry = if is_table { table.look_up(&name) } else { cpu.look_up(kind, &name) };
+        let ((at, cpu), (kind, name), way) =
+            (self.any_or_chosen(), self.any_key(), self.dice.below(3));
+        let key = (kind, &name);
+        match (way, cpu) {
+            (0, _) => {
+                let entry = match cpu {
+                    Some(cpu) => cpu.look_up(key),
+                    None => self.registry.look_up(key),
+                };
                 let entry = entry.map_err(why);
                 if !self.is_spent(at, &entry) {
                     assert_eq!(entry, self.look(at, kind, &name));
                 }
             }
-            1 => {
-                let got = if is_table { table.get(&name) } else { cpu.get(kind, &name) };
-                let got = got.map_err(why);
+            (1, Some(cpu)) => {
+                let got = cpu.get(key).map_err(why);
                 if !self.is_spent(at, &got) {
-                    let expected = self.look(at, kind, &name).and_then(|entry| self.passively(at, entry));
+                    let expected =
+                        self.look(at, kind, &name).and_then(|entry| self.passively(at, entry));
                     self.last[at] = expected.ok().map(|place| place.1);
                     self.keep(got, expected);
                 }
             }
             _ => {
-                let got = if is_table { table.get_local(&name) } else { cpu.get_local(kind, &name) };
+                let got = match cpu {
+                    Some(cpu) => cpu.get_local(key),
+                    None => self.registry.get(key),
+                };
                 self.got_local(at, kind, &name, got.map_err(why));
             }
         }
     }
 
-    /// A local reference that a call by one name has acquired.
+    /// A local reference that a call by one name has acquired. At its limit the CPU releases what
+    /// was dropped, and tries again.
     fn got_local(&mut self, at: usize, kind: Kind, name: &Name, got: Told<LocalRef<Tracked>>) {
-        if !self.is_spent(at, &got) {
-            let expected = self.look(at, kind, name).and_then(|entry| self.locally(at, entry));
-            self.keep_local(got, at, expected);
+        let found = self.found(kind, name);
+        let is_full = |bench: &mut Self, entry: &Entry| {
+            let limit = bench.settings.locals as i64;
+            bench.known(entry.number).net[at] == limit
+        };
+        let was_any = self.known.iter().any(|one| !one.dropped.is_empty());
+        let again = was_any && found.map_or(false, |entry| is_full(self, &entry));
+        self.begun[at] += u64::from(again && !self.is_inside(at));
+        if self.is_spent(at, &got) {
+            // It may be the second call that was refused.
+            if again {
+                self.release_dropped(at, None);
+            }
+            return;
         }
+        if again {
+            self.release_dropped(at, None);
+        }
+        let expected = self.look(at, kind, name).and_then(|entry| self.count(at, entry));
+        if let Ok(entry) = expected {
+            self.release_dropped(at, Some(entry.number));
+        }
+        self.keep_local(got, at, expected);
     }
 
     fn release(&mut self) {
@@ -409,17 +568,27 @@ impl<'cpu> Bench<'cpu> {
             if way > 0 {
                 return PassiveRef::release(held);
             }
-            let (entry, at, more) = (PassiveRef::entry(&held), place(&held).0, PassiveRef::try_clone(&held).map_err(why));
+            let (entry, at, more) = (
+                PassiveRef::entry(&held),
+                place(&held).0,
+                PassiveRef::try_clone(&held).map_err(why),
+            );
             self.passives.push(held);
             let expected = self.passively(at, entry);
             self.keep(more, expected);
         } else if let Some(held) = self.dice.take(&mut self.locals) {
-            held.0.check();
+            held.local.check();
             match way % 4 {
-                0 | 1 => self.release_local(held.0),
-                2 => self.clone_local(held),
+                0 | 1 => self.release_local(held),
+                2 => {
+                    let clone = Held { local: held.local.clone(), ..held };
+                    assert_eq!(clone.number(), held.number());
+                    self.clones[held.of] += 1;
+                    self.locals.extend([held, clone]);
+                }
                 _ => {
-                    self.known(LocalRef::entry(&held.0).number).dropped += 1;
+                    let at = held.of;
+                    self.known(held.number()).dropped.push(at);
                     drop(held);
                 }
             }
@@ -427,26 +596,15 @@ impl<'cpu> Bench<'cpu> {
     }
 
     /// On a CPU that is lent, if any is.
-    fn release_local(&mut self, held: LocalRef<Tracked>) {
-        let (number, (_, cpu)) = (LocalRef::entry(&held).number, self.any_cpu());
+    fn release_local(&mut self, held: Held) {
+        let (number, (_, cpu)) = (held.number(), self.any_cpu());
         let cpu = self.loans.last().map_or(cpu, |loan| loan);
         let at = usize::from(cpu.id());
-        told(LocalRef::release(held, cpu)).unwrap();
-        self.known(number).net[at] -= 1;
+        LocalRef::release(held.local, cpu);
+        self.clones[held.of] -= 1;
+        let is_last = self.clones[held.of] == 0;
+        self.known(number).net[at] -= i64::from(is_last);
         self.release_dropped(at, Some(number));
-    }
-
-    fn clone_local(&mut self, held: (LocalRef<Tracked>, usize)) {
-        let ((at, cpu), entry) = (self.any_cpu(), LocalRef::entry(&held.0));
-        let more = LocalRef::try_clone(&held.0, cpu).map_err(why);
-        self.locals.push(held);
-        if !self.is_spent(at, &more) {
-            let expected = match self.look(at, entry.kind, &entry.name) {
-                Ok(found) if found == entry => self.locally(at, entry),
-                _ => Err(Refusal::NotFound),
-            };
-            self.keep_local(more, at, expected);
-        }
     }
 }
 
@@ -454,43 +612,50 @@ impl<'cpu> Bench<'cpu> {
 impl<'cpu> Bench<'cpu> {
     /// An attach, or a replace: what holds the old entry keeps it, and on an error it stays.
     fn attach(&mut self) {
-        let ((at, cpu), (kind, name), way) = (self.any_cpu(), self.any_key(), self.dice.below(6));
-        let (registry, table, place) = (self.registry, cpu.table(), self.dice.below(self.locals.len().max(1)));
-        let kept = match (kind, self.locals.get(place)) {
-            (Kind::Driver, _) => None,
-            (Kind::Iface, Some((driver, of))) => Some((LocalRef::entry(driver), *of)),
-            (Kind::Iface, None) => return,
+        let ((at, cpu), (kind, name)) = (self.any_or_chosen(), self.any_key());
+        let (replaces, driver) = (self.dice.below(3) == 0, any_name(self.dice.below(self.names)));
+        let (registry, value, is_iface) = (self.registry, self.value(), kind == Kind::Iface);
+        let alone = |made| (made, None);
+        let both = |(made, old)| (made, Some(old));
+        let made = match (replaces, is_iface, cpu) {
+            (false, false, Some(cpu)) => cpu.attach(name, value).map(alone),
+            (false, false, None) => registry.attach(name, value).map(alone),
+            (false, true, Some(cpu)) => cpu.attach_iface(driver, name, value).map(alone),
+            (false, true, None) => registry.attach_iface(driver, name, value).map(alone),
+            (true, false, Some(cpu)) => cpu.replace(name, value).map(both),
+            (true, false, None) => registry.replace(name, value).map(both),
+            (true, true, Some(cpu)) => cpu.replace_iface(driver, name, value).map(both),
+            (true, true, None) => registry.replace_iface(driver, name, value).map(both),
         };
-        let expected = self.before_change(at).and_then(|()| match (kept, self.found(kind, &name), way) {
-            (Some((driver, _)), ..) if driver.kind == Kind::Iface => Err(Refusal::NeedsDriver),
-            (_, Ok(_), 0..=3) => Err(Refusal::NameTaken),
-            (_, Err(refusal), 4..) => Err(refusal),
-            (_, old, _) => Ok((self.slot()?, old.ok())),
-        });
-        let (value, alone, both) = (self.value(), |made| (made, None), |(made, old)| (made, Some(old)));
-        let made = match (kept, way) {
-            (None, 0..=1) => table.attach(&name, value).map(alone).map_err(why),
-            (None, 2..=3) => registry.attach(cpu, &name, value).map(alone).map_err(why),
-            (None, 4) => table.replace(&name, value).map(both).map_err(why),
-            (None, _) => registry.replace(cpu, &name, value).map(both).map_err(why),
-            (Some((_, of)), _) => {
-                let driver = self.locals.swap_remove(place).0;
-                let made = match way {
-                    0..=3 => registry.attach_iface(cpu, &name, driver, value).map(alone),
-                    _ => registry.replace_iface(cpu, &name, driver, value).map(both),
-                };
-                made.map_err(|refused| {
-                    self.locals.push((refused.given.0, of));
-                    why(refused.refusal)
-                })
+        let made = made.map_err(why);
+        let kept = self.live(Kind::Driver, &driver).filter(|_| is_iface).map(|one| one.entry);
+        if is_iface && !self.is_inside(at) && self.is_spent(at, &made) {
+            let _ = self.before_attach(at);
+            return;
+        }
+        let expected = self.before_attach(at).and_then(|()| {
+            if is_iface {
+                let driver = kept.ok_or(RegistryError::NeedsDriver)?;
+                self.count(at, driver)?;
+                self.known(driver.number).net[at] -= 1;
             }
-        };
+            let old = match (self.found(kind, &name), replaces) {
+                (Ok(_), false) => return Err(RegistryError::NameTaken),
+                (old, _) => old.ok(),
+            };
+            if replaces && old.is_none() {
+                return Err(RegistryError::NotFound);
+            }
+            Ok((self.slot()?, old))
+        });
         let told = made.as_ref().map(|(made, old)| (made.slot, old.as_ref().map(Retired::entry)));
         assert_eq!(told.map_err(|why| *why), expected);
         if let Ok((entry, old)) = made {
-            old.iter().for_each(|old| self.detached(old.entry().number));
-            self.attached(entry, (kind, name), kept.map(|(driver, of)| (driver.number, of)));
-            self.tokens.extend(old);
+            let gone = old.as_ref().map(|old| old.entry().number);
+            gone.iter().for_each(|gone| self.detached(*gone));
+            assert_eq!((entry.kind, entry.name), (kind, name));
+            self.attached(entry, kept.map(|driver| (driver.number, at)), gone);
+            self.tokens.extend(old.map(Token::new));
         }
     }
 
@@ -500,22 +665,27 @@ impl<'cpu> Bench<'cpu> {
     }
 
     fn detach(&mut self) {
-        let ((at, cpu), (kind, name)) = (self.any_cpu(), self.any_key());
+        let ((at, cpu), (kind, name)) = (self.any_or_chosen(), self.any_key());
         let expected = self.before_change(at).and_then(|()| self.found(kind, &name));
-        let table = Some(cpu.table()).filter(|_| kind == Kind::Driver);
-        let (mut freed, retires) = (Vec::new(), self.dice.below(2) == 0);
-        let token = match (table, expected, self.dice.below(3)) {
-            (Some(table), _, 0) if retires => table.retire(&name).map(|all| freed = all).map(|()| None).map_err(why),
-            _ if retires => self.registry.retire(cpu, kind, &name).map(|all| freed = all).map(|()| None).map_err(why),
-            (Some(table), _, 0) => table.detach(&name).map(Some).map_err(why),
-            (_, Ok(entry), 1) => self.registry.detach_entry(cpu, &entry).map(Some).map_err(why),
-            _ => self.registry.detach(cpu, kind, &name).map(Some).map_err(why),
+        let (registry, key, retires) = (self.registry, (kind, &name), self.dice.below(2) == 0);
+        let (mut freed, by_entry) = (Vec::new(), expected.ok().filter(|_| self.dice.below(3) == 0));
+        let token = if retires {
+            let all = cpu.map_or_else(|| registry.retire(key), |cpu| cpu.retire(key));
+            all.map(|all| freed = all).map(|()| None)
+        } else if let Some(entry) = by_entry {
+            let by =
+                cpu.map_or_else(|| registry.detach_entry(&entry), |cpu| cpu.detach_entry(&entry));
+            by.map(Some)
+        } else {
+            cpu.map_or_else(|| registry.detach(key), |cpu| cpu.detach(key)).map(Some)
         };
+        let token = token.map_err(why);
         assert_eq!(token.as_ref().err(), expected.as_ref().err());
         if let (Ok(token), Ok(entry)) = (token, expected) {
+            self.changes += 1;
             self.detached(entry.number);
             self.deferred.extend(token.is_none().then_some(entry.number));
-            self.tokens.extend(token);
+            self.tokens.extend(token.map(Token::new));
             assert_eq!(numbers(&freed), if retires { self.collect() } else { Vec::new() });
         }
     }
@@ -527,33 +697,41 @@ impl<'cpu> Bench<'cpu> {
         if let Some(one) = self.known.get(place) {
             let mut entry = one.entry;
             entry.slot += u8::from(one.live);
-            let expected = self.before_change(at).and(Err(Refusal::NotFound));
-            assert_eq!(self.registry.detach_entry(cpu, &entry).map(drop).map_err(why), expected);
+            let expected = self.before_change(at).and(Err(RegistryError::NotFound));
+            assert_eq!(cpu.detach_entry(&entry).map(drop).map_err(why), expected);
+            // One of another registry may have the same number.
+            let other = self.foreign.look_up("d0").unwrap();
+            let expected = self.before_change(at).and(Err(RegistryError::NotFound));
+            assert_eq!(cpu.detach_entry(&other).map(drop).map_err(why), expected);
         }
     }
 
     /// A turn on a retired entry, by each of the ways.
     fn work(&mut self) {
         let (at, cpu) = self.any_cpu();
-        let token = match self.dice.take(&mut self.tokens) {
+        let mut token = match self.dice.take(&mut self.tokens) {
             Some(token) => token,
             None => return,
         };
-        let number = token.entry().number;
-        let way = self.dice.below(4);
+        let (number, way) = (token.number(), self.dice.below(5));
         if way == 3 {
-            token.defer();
-            match self.taken.iter().position(|other| *other == number) {
-                Some(place) => drop(self.taken.swap_remove(place)),
-                None => self.deferred.push(number),
-            }
+            token.retired.defer();
+            self.deferred.push(number);
             return drop(self.collect());
         }
-        let expected = if way == 2 && self.is_inside(at) { Some(Refusal::Inside) } else { self.worked(number, (way == 2).then_some(at)) };
+        if way == 4 {
+            return self.await_it(token);
+        }
+        let expected = if way == 2 && self.is_inside(at) {
+            Some(RegistryError::Inside)
+        } else {
+            self.worked(number, (way == 2).then_some(at))
+        };
+        let waits = token.waits.take();
         let done = match way {
-            0 => token.advance(),
-            1 => token.wait(Patience::Turns(1)),
-            _ => token.destroy(cpu, Patience::Turns(1)),
+            0 => token.retired.try_destroy(),
+            1 => token.retired.destroy(Patience::Turns(1)),
+            _ => token.retired.destroy_on(cpu, Patience::Turns(1)),
         };
         match done {
             Ok(freed) => {
@@ -562,43 +740,82 @@ impl<'cpu> Bench<'cpu> {
             }
             Err(Refused { refusal, given }) => {
                 assert_eq!((Some(why(refusal)), given.entry().number), (expected, number));
-                self.tokens.push(given);
+                self.tokens.push(Token { retired: given, waits });
             }
         }
     }
 
-    /// What one turn returns, of a destroy by this CPU or by none: what its CPU holds is said first. An attach may have freed the entry before.
-    fn worked(&mut self, number: u64, cpu: Option<usize>) -> Option<Refusal> {
-        if let Some(place) = self.taken.iter().position(|other| *other == number) {
-            self.taken.swap_remove(place);
-            return None;
+    /// Polls it by a task of its own.
+    fn await_it(&mut self, mut token: Token) {
+        let (number, task) = (token.number(), Task::here());
+        let polled = task.poll(&mut token.retired);
+        match (polled, self.turn(number)) {
+            (Poll::Ready(value), None) => value.check(),
+            (Poll::Pending, Some(holder)) => {
+                token.waits = Some((task, holder));
+                self.tokens.push(token);
+            }
+            (polled, holder) => panic!("{polled:?}, where {holder:?} holds it"),
         }
+    }
+
+    /// Each task is woken as soon as what it waits for is let go. If that is of a CPU, it isn't
+    /// woken before.
+    fn tasks(&self) {
+        for token in &self.tokens {
+            let (task, noted, now) = match &token.waits {
+                Some((task, noted)) => (task, noted, self.holder(token.number())),
+                None => continue,
+            };
+            let is_same = match (noted, now) {
+                (Holder::Local(_), Some(Holder::Local(_))) => true,
+                _ => Some(*noted) == now,
+            };
+            assert!(
+                task.woken() > 0 || is_same,
+                "nobody woke a task: {noted:?} held its entry, and now {now:?}"
+            );
+            assert!(
+                task.woken() == 0 || !is_same || matches!(noted, Holder::Local(_)),
+                "a task was woken, though {noted:?} holds its entry"
+            );
+            assert!(task.woken() < 2);
+        }
+    }
+
+    /// What one turn returns, of a destroy by this CPU or by none: what its CPU holds is said
+    /// first.
+    fn worked(&mut self, number: u64, cpu: Option<usize>) -> Option<RegistryError> {
         let own = cpu.filter(|cpu| self.passives_on(*cpu, number) > 0);
         let holder = self.turn(number);
-        own.map(|cpu| Holder::Passive(cpu as u8)).or(holder).map(Refusal::StillHeld)
+        own.map(|cpu| Holder::Passive(cpu as u8)).or(holder).map(RegistryError::StillHeld)
     }
 
     fn collect_or_perform(&mut self) {
         let (at, cpu) = self.any_cpu();
         if self.dice.below(2) == 0 {
             let expected = self.collect();
-            return assert_eq!(numbers(&self.registry.collect()), expected);
+            return assert_eq!(numbers(&self.registry.free_deferred()), expected);
         }
         let waiting = (0..CPUS).find(|other| self.is_inside(*other));
-        let expected = self.before_change(at).and_then(|()| waiting.map_or(Ok(()), |other| Err(Refusal::Waiting(other as u8))));
-        assert_eq!(self.registry.perform(cpu, Patience::Turns(2)).map_err(why), expected);
+        let expected = self.before_change(at).and_then(|()| {
+            waiting.map_or(Ok(()), |other| Err(RegistryError::Waiting(other as u8)))
+        });
+        assert_eq!(cpu.synchronize(Patience::Turns(2)).map_err(why), expected);
     }
 
     /// An interface goes before its driver.
     fn drain(&mut self) {
         let (at, cpu) = self.any_cpu();
-        let drained = self.registry.drain(cpu, Patience::Turns(1)).map_err(why);
+        let drained = cpu.drain(Patience::Turns(1)).map_err(why);
         assert_eq!(drained.as_ref().err().copied(), self.before_change(at).err());
         if let Ok(drained) = drained {
-            let mut live: Vec<u64> = self.known.iter().filter(|one| one.live).map(|one| one.entry.number).collect();
+            let mut live: Vec<u64> =
+                self.known.iter().filter(|one| one.live).map(|one| one.entry.number).collect();
             live.sort_unstable_by_key(|number| u64::MAX - number);
+            self.changes += live.len() as u64;
             live.iter().for_each(|number| self.detached(*number));
-            let (mut freed, mut held) = (Vec::new(), Vec::new());
+            let (mut freed, mut held) = (self.collect(), Vec::new());
             for number in live {
                 match self.worked(number, Some(at)) {
                     None => freed.push(number),
@@ -606,24 +823,35 @@ impl<'cpu> Bench<'cpu> {
                 }
             }
             freed.extend(self.collect());
-            let told: Vec<_> = drained.held.iter().map(|held| (held.given.entry().number, why(held.refusal))).collect();
+            let told: Vec<_> = drained
+                .held
+                .iter()
+                .map(|held| (held.given.entry().number, why(held.refusal)))
+                .collect();
             assert_eq!((numbers(&drained.freed), told), (freed, held));
-            self.tokens.extend(drained.held.into_iter().map(|held| held.given));
+            self.tokens.extend(drained.held.into_iter().map(|held| Token::new(held.given)));
         }
     }
 
     /// By all CPUs, those of the pool among them.
     fn audit(&mut self) {
-        let rest: Vec<Lent<'_, Tracked>> = std::iter::from_fn(|| self.pool.try_lend()).collect();
+        let rest: Vec<LentCpu<'_, Tracked>> = std::iter::from_fn(|| self.pool.try_lend()).collect();
         let lent = self.loans.iter().chain(&rest).map(|loan| -> &Cpu<Tracked> { loan });
         let audited = self.registry.audit(self.cpus.iter().chain(lent)).unwrap();
         self.release_dropped(0, None);
         self.known.sort_by_key(|one| one.entry.slot);
         assert_eq!(audited.len(), self.known.len());
         for (told, one) in audited.iter().zip(&self.known) {
-            let held = self.locals_to(one.entry.number).len() as i64;
-            assert_eq!((told.slot, told.number, told.held), (one.entry.slot, one.entry.number, held));
-            assert!(told.locals == one.net || !one.live && told.locals == [0; ALL], "{told:?}, not {:?}", one.net);
+            let held = self.held(one.entry.number) as i64;
+            assert_eq!(
+                (told.slot, told.number, told.held),
+                (one.entry.slot, one.entry.number, held)
+            );
+            assert!(
+                told.locals == one.net || !one.live && told.locals == [0; ALL],
+                "{told:?}, not {:?}",
+                one.net
+            );
             assert_eq!(told.locals.iter().sum::<i64>() + told.total, held);
         }
     }
@@ -632,15 +860,22 @@ impl<'cpu> Bench<'cpu> {
     fn holders(&mut self) {
         for one in &self.known {
             let number = one.entry.number;
-            let sections = (0..CPUS).filter(|cpu| self.is_in_grace(*cpu, one)).map(|cpu| (Hold::Section, cpu, None));
+            let sections = (0..CPUS)
+                .filter(|cpu| self.is_in_grace(*cpu, one))
+                .map(|cpu| (Hold::Section, cpu, None));
             let passives = self.passives.iter().map(place).filter(|place| place.1 == number);
-            let locals = self.locals_to(number).into_iter().map(|(cpu, iface)| (Hold::Local, cpu, iface));
+            let locals = self
+                .locals_to(number, self.known.iter().chain(&self.vacated))
+                .into_iter()
+                .map(|(cpu, iface, _)| (Hold::Local, cpu, iface));
             let passives = passives.map(|place| (Hold::Passive, place.0, None));
             let mut expected: Vec<_> = sections.chain(passives).chain(locals).collect();
             expected.sort_unstable();
             if let Some(holders) = self.registry.holders(&one.entry) {
                 let places = holders.places.iter();
-                let mut told: Vec<_> = places.map(|place| (place.hold, usize::from(place.cpu), place.kept_by)).collect();
+                let mut told: Vec<_> = places
+                    .map(|place| (place.hold, usize::from(place.cpu), place.kept_by))
+                    .collect();
                 assert!(told.windows(2).all(|pair| pair[0].0 <= pair[1].0));
                 told.sort_unstable();
                 assert_eq!(told, expected);
@@ -660,8 +895,12 @@ impl<'cpu> Bench<'cpu> {
         };
         assert_eq!(lent.is_some(), is_idle);
         self.loans.extend(lent);
-        let ids: BTreeSet<u8> = self.loans.iter().filter(|loan| !loan.is_inside()).map(|loan| loan.id()).collect();
-        assert!(ids.len() == self.loans.len() && ids.iter().all(|id| (CPUS..ALL).contains(&usize::from(*id))));
+        let ids: BTreeSet<u8> =
+            self.loans.iter().filter(|loan| !loan.is_inside()).map(|loan| loan.id()).collect();
+        assert!(
+            ids.len() == self.loans.len()
+                && ids.iter().all(|id| (CPUS..ALL).contains(&usize::from(*id)))
+        );
     }
 
     /// A loan goes back outside, with a section that was forgotten, too.
@@ -685,45 +924,41 @@ impl<'cpu> Bench<'cpu> {
                 }
             }
             2 => {
-                // The other CPU is lent, so this one alone is there.
-                let (others, pool) = (mem::take(&mut self.loans), self.pool);
-                let rest: Vec<_> = std::iter::from_fn(|| pool.try_lend()).collect();
+                let got = loan.get_local((kind, &name)).map_err(why);
                 drop(loan);
-                let got = pool.get_local(kind, &name).map_err(why);
-                drop(rest);
-                self.loans.extend(others);
                 self.got_local(at, kind, &name, got);
             }
             _ => drop(loan),
         }
     }
 
-    /// Each call that takes two handles is refused where they are of two registries, and gives back what it was given.
+    /// Each call that takes two handles is refused where they are of two registries, and gives back
+    /// what it was given.
     fn mix(&mut self) {
-        let (registry, other, drops, (kind, name)) = (self.registry, self.foreign, self.drops, self.any_key());
-        let mut refused = vec![
-            told(registry.attach(other, &name, drops.make(0))),
-            told(registry.attach_iface(&self.cpus[0], &name, common::local(other, "d0"), drops.make(0))),
-            told(registry.replace(other, &name, drops.make(0))),
-            told(registry.detach(other, kind, &name)),
-            told(registry.retire(other, kind, &name)),
-            told(registry.drain(other, Patience::Forever)),
-            told(registry.perform(other, Patience::Forever)),
-        ];
-        refused.extend(self.known.first().map(|one| told(registry.detach_entry(other, &one.entry))));
-        if let Some(token) = self.tokens.pop() {
-            let error = token.destroy(other, Patience::Forever).unwrap_err();
-            self.tokens.push(error.given);
-            refused.push(Err(why(error.refusal)));
+        let (other, drops, (_, name)) = (self.foreign, self.drops, self.any_key());
+        if let Some(Token { retired, waits }) = self.tokens.pop() {
+            let error = retired.destroy_on(other, Patience::Forever).unwrap_err();
+            self.tokens.push(Token { retired: error.given, waits });
+            assert_eq!(why(error.refusal), RegistryError::OtherRegistry);
         }
-        if let Some((held, of)) = self.locals.pop() {
-            refused.push(told(LocalRef::try_clone(&held, other)));
-            let released = LocalRef::release(held, other).unwrap_err();
-            let attached = registry.attach_iface(other, &name, released.given, drops.make(0)).unwrap_err();
-            self.locals.push((attached.given.0, of));
-            refused.extend([Err(why(released.refusal)), Err(why(attached.refusal))]);
+        if let Some(held) = self.locals.pop() {
+            // As if it were dropped.
+            let at = held.of;
+            self.known(held.number()).dropped.push(at);
+            LocalRef::release(held.local, other);
         }
-        assert!(refused.iter().all(|one| *one == Err(Refusal::OtherRegistry)), "{refused:?}");
+        let value = drops.make(0);
+        let iface = self.registry.attach((Kind::Iface, &name), value).unwrap_err();
+        let unnamed = self.cpus[0].replace("a name of 17 byte", iface.given).unwrap_err();
+        assert_eq!(
+            (why(iface.refusal), unnamed.refusal),
+            (RegistryError::NeedsDriver, kupaldiz::AttachError::BadName)
+        );
+        let _ = self.before_attach(CHOSEN);
+        let _ = self.before_attach(0);
+        assert!(self.cpus[0].look_up("").is_err() && self.registry.detach("").is_err());
+        self.begun[0] += u64::from(!self.is_inside(0));
+        let _ = self.before_change(CHOSEN);
     }
 }
 
@@ -748,30 +983,34 @@ impl Bench<'_> {
             _ => self.audit(),
         }
         self.holders();
-        let dropped: usize = self.known.iter().map(|one| one.dropped).sum();
-        assert_eq!((self.registry.retired(), self.registry.dropped()), (self.deferred.len(), dropped));
-        let kept = self.known.len() + self.waiting.len() + self.taken.len();
+        self.tasks();
+        let dropped: usize = self.known.iter().map(|one| one.dropped.len()).sum();
+        assert_eq!(
+            (self.registry.deferred(), self.registry.dropped()),
+            (self.deferred.len(), dropped)
+        );
+        let kept = self.known.len() + self.vacated.len();
         assert_eq!(self.drops.made() - self.drops.dropped(), kept);
         for one in &self.known {
-            let held = |cpu: usize| self.cpus[cpu].holds(one.entry.number) == (self.passives_on(cpu, one.entry.number) > 0);
+            let held = |cpu: usize| {
+                self.cpus[cpu].holds(one.entry.number)
+                    == (self.passives_on(cpu, one.entry.number) > 0)
+            };
             assert!((0..CPUS).all(held));
         }
     }
 }
 
 thread_local! {
-    /// A bit for the number of each refusal that came.
-    static CAME: Cell<u64> = const { Cell::new(0) };
+    /// The refusals that came.
+    static CAME: RefCell<BTreeSet<String>> = RefCell::default();
 }
 
-fn why(error: impl Into<Refusal>) -> Refusal {
+fn why(error: impl Into<RegistryError>) -> RegistryError {
     let refusal = common::why(error);
-    CAME.with(|came| came.set(came.get() | 1 << refusal.number()));
+    let text = format!("{refusal:?}");
+    CAME.with(|came| came.borrow_mut().insert(text.split('(').next().unwrap().to_string()));
     refusal
-}
-
-fn told<R>(answer: Result<R, impl Into<Refusal>>) -> Told<()> {
-    answer.map(drop).map_err(why)
 }
 
 /// The numbers of what was freed, in its order.
@@ -781,21 +1020,27 @@ fn numbers(freed: &[Freed<Tracked>]) -> Vec<u64> {
 }
 
 /// Low limits. Some are as high as they may be.
-fn settings(seed: u64) -> Settings {
+fn settings(seed: u64, slots: usize) -> Settings {
     let count = |divisor: u64| [1, 2, 3, LIMITS.count][(seed / divisor % 4) as usize];
     let changes = if seed % 5 == 0 { 60 } else { LIMITS.changes };
-    let sections = if seed % 3 == 0 { 60 } else { LIMITS.sections };
-    Settings::new(ALL as u8, SLOTS as u8).changes(changes).sections(sections).passives(count(1)).locals(count(2))
+    let sections = if seed % 3 == 0 { 30 } else { LIMITS.sections };
+    Settings::new(CHOSEN as u8, slots as u8)
+        .changes(changes)
+        .sections(sections)
+        .passives(count(1))
+        .locals(count(2))
 }
 
 /// So many random calls.
 fn run(seed: u64, steps: usize) {
     let (drops, of_others) = (Drops::default(), Drops::default());
-    let (other, others) = Registry::open(Settings::new(1, 1)).unwrap();
-    other.attach(&others[0], &name("d0"), of_others.make(0)).unwrap();
-    let settings = settings(seed);
-    let opened = if seed % 2 == 0 { Registry::open_tracked(settings) } else { Registry::open(settings) };
-    let (registry, mut cpus) = opened.unwrap();
+    let (_other, others) = opened(Settings::new(1, 1));
+    others[0].attach("d0", of_others.make(0)).unwrap();
+    let (slots, names) = if seed % 4 < 2 { FEW } else { MANY };
+    let settings = settings(seed, slots);
+    let open = if seed % 2 == 0 { Registry::open_tracked } else { Registry::open };
+    let registry = open(settings).unwrap();
+    let mut cpus: Vec<_> = (0..CHOSEN as u8).filter_map(|id| registry.cpu(id)).collect();
     let pool = CpuPool::new(cpus.drain(CPUS..)).unwrap();
     let mut bench = Bench {
         registry: &registry,
@@ -810,21 +1055,30 @@ fn run(seed: u64, steps: usize) {
         last: [None; ALL],
         passives: Vec::new(),
         locals: Vec::new(),
+        clones: Vec::new(),
         loans: Vec::new(),
         tokens: Vec::new(),
         deferred: Vec::new(),
-        waiting: Vec::new(),
-        taken: Vec::new(),
         known: Vec::new(),
+        vacated: Vec::new(),
+        names,
         changes: 0,
         labels: 0,
+        drivers: Vec::new(),
     };
+    drop(common::dropped_here());
     (0..steps).for_each(|_| bench.step());
+    let drivers = mem::take(&mut bench.drivers);
     drop(bench);
     let registry = registry.close(Patience::Turns(2)).unwrap_err().registry;
     drop((cpus, pool));
     registry.close(Patience::Turns(1)).unwrap();
     assert_eq!((drops.made(), of_others.dropped()), (drops.dropped(), 0));
+    let order: HashMap<u64, usize> = common::dropped_here().into_iter().zip(0..).collect();
+    assert!(
+        drivers.iter().all(|(iface, driver)| order[iface] < order[driver]),
+        "a driver's value went before its interface's"
+    );
 }
 
 #[test]
@@ -832,9 +1086,10 @@ fn each_answer_is_the_models() {
     for seed in 1..=20u64 {
         run(seed, scaled(3000));
     }
-    let all = [0, 3, 4, 5, 6, 7, 8, 10, 13, 16, 17, 19].iter().fold(0, |bits, number| bits | 1 << number);
-    let came = CAME.with(Cell::get);
-    assert!(came == all || scaled(100) < 100, "of the refusals these came: {came:b}");
+    let came: Vec<String> = CAME.with(RefCell::take).into_iter().collect();
+    let all = "HistoryFull Inside LocalFull NameTaken NeedsDriver NoSlot NotFound OtherRegistry \
+        PassiveFull SectionsSpent StillHeld Waiting";
+    assert!(came.join(" ") == all || scaled(100) < 100, "of the refusals these came: {came:?}");
 }
 
 /// Registries on threads beside each other have nothing in common.

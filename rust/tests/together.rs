@@ -1,17 +1,20 @@
-//! Threads that share a registry. Their calls are random. Each thread alone changes its own names, so of these each answer is known. A lookup of
-//! another's name finds what the registry had during the call: it is whole, and has that name.
+//! Threads that share a registry. Their calls are random. Each thread alone changes its own names,
+//! so of these each answer is known. A lookup of another's name finds what the registry had during
+//! the call: it is whole, and has that name.
 //!
-//! tests/sanitized.sh runs it under the thread sanitizer, which doesn't see how the standard library waits. So a lock is tried again and again, and threads are
-//! joined one by one.
+//! tests/sanitized.sh runs it under the thread sanitizer, which doesn't see how the standard
+//! library waits. So a lock is tried again and again, and threads are joined one by one.
 #![allow(unknown_lints, unexpected_cfgs)]
 
 mod common;
 
-use common::{name, scaled, Dice, Drops, Tracked};
+use common::{name, opened, scaled, Dice, Drops, Tracked};
 use kupaldiz::{
-    AttachError, Cpu, DestroyError, Entry, Found, Holder, Kind, LocalRef, Name, PassiveRef, Patience, ReadGuard, Refusal, Refused,
-    Registry, Retired, Settings, LIMITS,
+    AttachError, Cpu, DestroyError, Entry, Found, Holder, Kind, LocalRef, LookUpError, Name,
+    PassiveRef, Patience, ReadGuard, Refused, Registry, Retired, Settings, SynchronizeError,
+    LIMITS,
 };
+use std::collections::BTreeSet;
 use std::sync::atomic::{AtomicU64, Ordering};
 use std::sync::Mutex;
 use std::thread;
@@ -32,16 +35,18 @@ impl Handed {
     }
 }
 
-/// Of a name: how many changes of its driver began, how many ended, and the number of the driver that is live since, or 0. Its owner writes them.
+/// Of a name: how many changes of its driver began, how many ended, and the number of the driver
+/// that is live since, or 0. `bared` is odd as long as there may be none. Its owner writes them.
 #[derive(Default)]
 struct Known {
     begun: AtomicU64,
+    bared: AtomicU64,
     ended: AtomicU64,
     number: AtomicU64,
 }
 
 /// Relaxed under the thread sanitizer, which would take these for an order between the threads.
-const ORDER: Ordering = if cfg!(registry_edges) { Ordering::Relaxed } else { Ordering::SeqCst };
+const ORDER: Ordering = if cfg!(kupaldiz_edges) { Ordering::Relaxed } else { Ordering::SeqCst };
 
 /// The number and the label of an entry that is live.
 type Live = Option<(u64, u64)>;
@@ -83,13 +88,28 @@ impl<'all, const CPUS: usize, const OWN: usize> Worker<'all, CPUS, OWN> {
         self.drops.make(self.labels * Self::NAMES as u64 + place as u64)
     }
 
-    /// What a lookup of a driver returns was live during the call. So it is what was live before, unless a change was under way; then it may be none, or newer.
-    fn looked_up<F>(&self, place: usize, look: impl FnOnce(Kind, &'all Name) -> Option<F>, entry: fn(&F) -> Entry) -> Option<F> {
+    /// What a lookup of a driver returns was live during the call. So it is what was live before,
+    /// unless a change was under way; then it may be newer. It is none only if the name was bare at
+    /// some moment: no replacement leaves it so.
+    fn looked_up<F>(
+        &self,
+        place: usize,
+        look: impl FnOnce(&'all Name) -> Option<F>,
+        entry: fn(&F) -> Entry,
+    ) -> Option<F> {
         let (names, known) = (self.names, &self.known[place]);
-        let (ended, before) = (known.ended.load(ORDER), known.number.load(ORDER));
-        let found = look(Kind::Driver, &names[place]);
-        let (number, is_changed) = (found.as_ref().map_or(0, |found| entry(found).number), known.begun.load(ORDER) != ended);
-        assert!(number == before || is_changed && (number == 0 || number > before), "{number} after {before}");
+        let (bared, ended) = (known.bared.load(ORDER), known.ended.load(ORDER));
+        let before = known.number.load(ORDER);
+        let found = look(&names[place]);
+        let was_bare = bared % 2 == 1 || known.bared.load(ORDER) != bared;
+        let (number, is_changed) = (
+            found.as_ref().map_or(0, |found| entry(found).number),
+            known.begun.load(ORDER) != ended,
+        );
+        assert!(
+            number == before || is_changed && (number > before || number == 0 && was_bare),
+            "{number} after {before}"
+        );
         found
     }
 
@@ -107,20 +127,29 @@ impl<'all, const CPUS: usize, const OWN: usize> Worker<'all, CPUS, OWN> {
         let (name, old) = (&self.names[place], self.live[own]);
         let retired = if old.is_some() && self.dice.below(3) > 0 {
             self.live[own] = None;
-            Some(self.registry.detach(self.cpu, Kind::Driver, name).unwrap())
+            self.known[place].bared.fetch_add(1, ORDER);
+            Some(self.cpu.detach(name).unwrap())
         } else {
             let value = self.value(place);
             let label = value.label;
             let made = match old {
-                None => self.registry.attach(self.cpu, name, value).map(|entry| (entry, None)),
-                Some(_) => self.cpu.table().replace(name, value).map(|(entry, retired)| (entry, Some(retired))),
+                None => self.cpu.attach(name, value).map(|entry| (entry, None)),
+                Some(_) => {
+                    self.cpu.replace(name, value).map(|(entry, retired)| (entry, Some(retired)))
+                }
             };
             match made {
                 Ok((entry, retired)) => {
+                    self.known[place].bared.fetch_add(u64::from(old.is_none()), ORDER);
                     self.live[own] = Some((entry.number, label));
                     retired
                 }
-                Err(refused) => return assert_eq!((refused.refusal, refused.given.label), (AttachError::NoSlot, label)),
+                Err(refused) => {
+                    return assert_eq!(
+                        (refused.refusal, refused.given.label),
+                        (AttachError::NoSlot, label)
+                    )
+                }
             }
         };
         if let (Some(retired), Some((number, label))) = (retired, old) {
@@ -134,15 +163,20 @@ impl<'all, const CPUS: usize, const OWN: usize> Worker<'all, CPUS, OWN> {
 
     /// Attaches its interface on any driver, or detaches it.
     fn change_iface(&mut self) {
-        let (place, name, driver) = (self.id * OWN, &self.names[self.id * OWN], &self.names[self.dice.below(Self::NAMES)]);
+        let (place, name, driver) =
+            (self.id * OWN, &self.names[self.id * OWN], &self.names[self.dice.below(Self::NAMES)]);
         if let Some(label) = self.iface.take() {
-            self.tokens.push((self.registry.detach(self.cpu, Kind::Iface, name).unwrap(), label));
-        } else if let Ok(driver) = self.cpu.get_local(Kind::Driver, driver) {
+            self.tokens.push((self.cpu.detach((Kind::Iface, name)).unwrap(), label));
+        } else {
             let value = self.value(place);
             let label = value.label;
-            match self.registry.attach_iface(self.cpu, name, driver, value) {
+            match self.cpu.attach_iface(driver, name, value) {
                 Ok(_) => self.iface = Some(label),
-                Err(refused) => assert_eq!((refused.refusal, refused.given.1.label), (AttachError::NoSlot, label)),
+                Err(Refused { refusal, given }) => {
+                    let is_known =
+                        matches!(refusal, AttachError::NoSlot | AttachError::NeedsDriver);
+                    assert!(is_known && given.label == label, "{refusal}");
+                }
             }
         }
     }
@@ -151,7 +185,8 @@ impl<'all, const CPUS: usize, const OWN: usize> Worker<'all, CPUS, OWN> {
     fn find_two(&mut self) {
         let ((own, place), other) = (self.own(), self.dice.below(Self::NAMES));
         let section = self.cpu.enter().unwrap();
-        let [mine, others] = [place, other].map(|place| self.looked_up(place, |kind, name| section.find(kind, name), Found::entry));
+        let [mine, others] = [place, other]
+            .map(|place| self.looked_up(place, |name| section.find(name), Found::entry));
         let known = mine.as_ref().map(|found| (Found::entry(found).number, found.label));
         assert_eq!(known, self.live[own]);
         if let Some(mine) = &mine {
@@ -164,7 +199,7 @@ impl<'all, const CPUS: usize, const OWN: usize> Worker<'all, CPUS, OWN> {
             assert_eq!(Self::name_of(others.label), other);
             match Found::acquire_local(others) {
                 Ok(local) => self.handed.with(|held| held.push(local)),
-                Err(refusal) => assert!(refusal == Refusal::NotFound && other / OWN != self.id),
+                Err(refusal) => assert!(refusal == LookUpError::NotFound && other / OWN != self.id),
             }
             others.check();
         }
@@ -175,23 +210,31 @@ impl<'all, const CPUS: usize, const OWN: usize> Worker<'all, CPUS, OWN> {
         let name = &self.names[place];
         match self.dice.below(4) {
             0 => {
-                let held = self.looked_up(place, |kind, name| cpu.get(kind, name).ok(), PassiveRef::entry);
+                let held = self.looked_up(place, |name| cpu.get(name).ok(), PassiveRef::entry);
                 held.iter().for_each(|held| assert!(Self::name_of(held.label) == place));
             }
             1 => {
-                if let Some(guard) = self.looked_up(place, |kind, name| cpu.read(kind, name).ok(), ReadGuard::entry) {
+                if let Some(guard) =
+                    self.looked_up(place, |name| cpu.read(name).ok(), ReadGuard::entry)
+                {
                     guard.check();
-                    assert_eq!((Self::name_of(guard.label), ReadGuard::entry(&guard).name), (place, *name));
+                    assert_eq!(
+                        (Self::name_of(guard.label), ReadGuard::entry(&guard).name),
+                        (place, *name)
+                    );
                 }
             }
-            2 => drop(self.looked_up(place, |kind, name| cpu.look_up(kind, name).ok(), |entry| *entry)),
+            2 => drop(self.looked_up(place, |name| cpu.look_up(name).ok(), |entry| *entry)),
             _ => {
                 let section = self.cpu.enter().unwrap();
                 let entries: Vec<_> = section.entries().collect();
-                assert!(entries.windows(2).all(|pair| Found::entry(&pair[0]).number > Found::entry(&pair[1]).number));
-                assert!(entries.iter().all(|found| self.names[Self::name_of(found.label)] == Found::entry(found).name));
-                let is_met = |number| entries.iter().any(|found| Found::entry(found).number == number);
-                assert!(self.live.iter().flatten().all(|live| is_met(live.0)));
+                let numbers: BTreeSet<u64> =
+                    entries.iter().map(|found| Found::entry(found).number).collect();
+                assert_eq!(numbers.len(), entries.len());
+                assert!(entries.iter().all(
+                    |found| self.names[Self::name_of(found.label)] == Found::entry(found).name
+                ));
+                assert!(self.live.iter().flatten().all(|live| numbers.contains(&live.0)));
             }
         }
     }
@@ -205,11 +248,12 @@ impl<'all, const CPUS: usize, const OWN: usize> Worker<'all, CPUS, OWN> {
         if let Some(local) = self.handed.with(Vec::pop) {
             local.check();
             match self.dice.below(4) {
-                0 | 1 => LocalRef::release(local, self.cpu).unwrap(),
-                2 => match LocalRef::try_clone(&local, self.cpu) {
-                    Ok(more) => assert_eq!(more.label, local.label),
-                    Err(refusal) => assert_eq!(refusal, Refusal::NotFound),
-                },
+                0 | 1 => LocalRef::release(local, self.cpu),
+                2 => {
+                    let clone = local.clone();
+                    assert_eq!(clone.label, local.label);
+                    self.handed.with(|held| held.extend([local, clone]));
+                }
                 _ => drop(local),
             }
         }
@@ -223,8 +267,8 @@ impl<'all, const CPUS: usize, const OWN: usize> Worker<'all, CPUS, OWN> {
         let number = retired.entry().number;
         let held = self.cpu.holds(number);
         let (done, own) = match self.dice.below(2) {
-            0 => (retired.advance(), false),
-            _ => (retired.destroy(self.cpu, Patience::Turns(2)), held),
+            0 => (retired.try_destroy(), false),
+            _ => (retired.destroy_on(self.cpu, Patience::Turns(2)), held),
         };
         match done {
             Ok(freed) => {
@@ -232,8 +276,10 @@ impl<'all, const CPUS: usize, const OWN: usize> Worker<'all, CPUS, OWN> {
                 assert_eq!((freed.entry.number, freed.value.label, held), (number, label, false));
             }
             Err(Refused { refusal, given }) => {
-                let passive = Refusal::StillHeld(Holder::Passive(self.cpu.id()));
-                assert!(matches!(refusal, DestroyError::StillHeld(_)) && (!own || refusal == passive));
+                let passive = DestroyError::StillHeld(Holder::Passive(self.cpu.id()));
+                assert!(
+                    matches!(refusal, DestroyError::StillHeld(_)) && (!own || refusal == passive)
+                );
                 self.tokens.push((given, label));
             }
         }
@@ -241,9 +287,9 @@ impl<'all, const CPUS: usize, const OWN: usize> Worker<'all, CPUS, OWN> {
 
     fn collect_or_perform(&mut self) {
         if self.dice.below(2) == 0 {
-            self.registry.collect().iter().for_each(|freed| freed.value.check());
-        } else if let Err(refusal) = self.registry.perform(self.cpu, Patience::Turns(1)) {
-            assert!(matches!(refusal, Refusal::Waiting(other) if other != self.cpu.id()));
+            self.registry.free_deferred().iter().for_each(|freed| freed.value.check());
+        } else if let Err(refusal) = self.cpu.synchronize(Patience::Turns(1)) {
+            assert!(matches!(refusal, SynchronizeError::Waiting(other) if other != self.cpu.id()));
         }
     }
 
@@ -264,11 +310,17 @@ impl<'all, const CPUS: usize, const OWN: usize> Worker<'all, CPUS, OWN> {
 fn run<const CPUS: usize, const OWN: usize>(slots: usize, seed: u64, steps: usize) {
     let (drops, handed) = (Drops::default(), Handed::default());
     let names: Vec<Name> = (0..CPUS * OWN).map(|place| name(&format!("d{place}"))).collect();
-    let (registry, cpus) = Registry::open(Settings::new(CPUS as u8, slots as u8)).unwrap();
-    let attach = |(label, name)| registry.attach(&cpus[0], name, drops.make(label)).map(|entry| (entry.number, label)).ok();
+    let (registry, cpus) = opened(Settings::new(CPUS as u8, slots as u8));
+    let attach = |(label, name)| {
+        cpus[0].attach(name, drops.make(label)).map(|entry| (entry.number, label)).ok()
+    };
     let live: Vec<Live> = (0..).zip(&names).map(attach).collect();
     assert_eq!(live.iter().flatten().count(), slots.min(names.len()));
-    let known = |live: &Live| Known { number: AtomicU64::new(live.map_or(0, |live| live.0)), ..Known::default() };
+    let known = |live: &Live| Known {
+        number: AtomicU64::new(live.map_or(0, |live| live.0)),
+        bared: AtomicU64::new(u64::from(live.is_none())),
+        ..Known::default()
+    };
     let known: Vec<Known> = live.iter().map(known).collect();
     thread::scope(|scope| {
         let (registry, drops, names, known, handed) = (&registry, &drops, &names, &known, &handed);
@@ -276,9 +328,23 @@ fn run<const CPUS: usize, const OWN: usize>(slots: usize, seed: u64, steps: usiz
             let live = live.try_into().unwrap();
             scope.spawn(move || {
                 let (id, cpu) = (usize::from(cpu.id()), &cpu);
-                let (dice, iface, passives, tokens) = (Dice::of(seed + id as u64), None, Vec::new(), Vec::new());
-                let mut worker =
-                    Worker::<CPUS, OWN> { registry, cpu, drops, names, known, handed, id, dice, live, iface, passives, tokens, labels: 0 };
+                let (dice, iface, passives, tokens) =
+                    (Dice::of(seed + id as u64), None, Vec::new(), Vec::new());
+                let mut worker = Worker::<CPUS, OWN> {
+                    registry,
+                    cpu,
+                    drops,
+                    names,
+                    known,
+                    handed,
+                    id,
+                    dice,
+                    live,
+                    iface,
+                    passives,
+                    tokens,
+                    labels: 0,
+                };
                 (0..steps).for_each(|_| worker.step());
             })
         };

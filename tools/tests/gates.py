@@ -33,7 +33,7 @@ case("parts", ["parts.py"], {"gate": GATE, "one": PASSES, "two": PASSES, "alone"
 # A gate of more parts than run at once is told to end once a part has begun, twice, as timeout(1) does it. It ends, and so does each part.
 WAITS = GATE.replace('Part("two", "./two")', '*[Part("two", "./two")] * 20')
 ENDS = """#!/bin/sh
-timeout -k 16 60 ./gate &
+timeout -k 60 600 ./gate &
 limit=$!
 until [ -e begun ]; do sleep 0.1; done
 kill $limit
@@ -42,18 +42,22 @@ wait $limit
 ! grep -lz "^WAITS=$PWD/wait" /proc/[0-9]*/environ 2>/dev/null || { echo "a part goes on"; exit 1; }
 """
 
-ENDED = {"gate": WAITS, "one": PASSES, "two": "#!/bin/sh\n: >begun\nexec env WAITS=$PWD/wait sleep 20\n", "alone": PASSES, "ends": ENDS}
+ENDED = {"gate": WAITS, "one": PASSES, "two": "#!/bin/sh\n: >begun\nexec env WAITS=$PWD/wait sleep 90\n", "alone": PASSES, "ends": ENDS}
 case("ending", ["parts.py"], ENDED, ["./ends"],
      of("tools/parts.py", ("parts that aren't ended", "it does not end", "os.kill(pid, number)", "pass")), counts=False)
 
 SHELL = """#!/usr/bin/env bash
 . tools/checks.sh
+has_packages page || finish
 check "true is" test 1 = 1
 counted "counts" ./one
 finish
 """
 
-case("checks.sh", ["checks.sh"], {"shell": SHELL, "one": PASSES}, ["./shell"], [
+LACKS = "#!/bin/sh\necho there is no $1\necho 0 passed, 7 failed\nexit 1\n"
+case("checks.sh", ["checks.sh"], {"shell": SHELL, "one": PASSES, "tools/packages.py": "#!/bin/sh\n"}, ["./shell"], [
+    *(Fault("a package that is missing", said, (("tools/packages.py", None, LACKS),))
+      for said in ("FAILED  the packages that page needs", "there is no page\n0 passed, 1 failed")),
     *of("shell", ("a check that fails", "FAILED  true is", "test 1 = 1", "test 1 = 2"),
         ("no checks", "0 passed, 1 failed", 'check "true is" test 1 = 1\ncounted "counts" ./one\n', "")),
     *of("one", ("a count with a failure", "FAILED  counts: 1 of 4", "0 failed", "1 failed"),
@@ -72,21 +76,33 @@ BESIDE = {
     "crates/registry_c/src/lib.rt": "face\n",
     "crates/registry_c/specs/Lib.antt": "\n",
     "crates/registry_c/proofs/Lib.antt": "\n",
-    "out/libregistry.a": "older\n",
+    "out/libkupaldiz_proved.a": "older\n",
     "out/aarch64/libregistry_c.a": "older\n",
-    # It fails if it may run on all processors and these are four or more.
-    "ci": '#!/bin/sh\necho "rt: low proved"\nsleep 1\necho "rt: registry_c proved"\necho 5 passed, 0 failed\n[ "$(nproc)" -lt 4 ] || [ "$(nproc)" -lt "$(nproc --all)" ]\n',
+    # It goes on once the edits of what it proved are tried, where there are processors for that; and
+    # fails if it may run on all processors and these are four or more.
+    "ci": """#!/bin/sh
+echo "rt: low proved"
+# meanwhile
+tries=0
+until [ -e out/tried ] || [ "$(nproc --all)" -lt 4 ] || [ $tries = 300 ]; do
+    tries=$((tries + 1))
+    sleep 0.1
+done
+echo "rt: registry_c proved"
+echo 5 passed, 0 failed
+[ "$(nproc)" -lt 4 ] || [ "$(nproc)" -lt "$(nproc --all)" ]
+""",
     "bin/rt": '#!/bin/sh\necho "$PWD/kit/START-HERE.md"\n',
     # It proves over the library beside it, and writes what -o names.
     "kit/bin/rattle": '#!/bin/sh\n[ "$(cat src/lib.rt ../low.rlib/format)" = "face\nlow" ] || exit 7\nfor made; do :; done\necho proved >"$made"\n',
     "tools/try-edits.py": '#!/bin/sh\nshift\necho "$*, on $(nproc)" >out/tried\n',
     "tools/proof-record.py": '#!/bin/sh\necho "$1 $2"\n',
-    "tools/build-archive.sh": f'#!/bin/sh\n[ $# = 2 ] && grep -qx "begin {LIMITS}" "$2" && cp "$1" out/libregistry.a\n',
+    "tools/build-archive.sh": f'#!/bin/sh\n[ $# = 2 ] && grep -qx "begin {LIMITS}" "$2" && cp "$1" out/libkupaldiz_proved.a\n',
     # The archive is what was proved, or there is none: else nothing else is said, and the fault goes untold.
     "beside": """#!/bin/sh
 PATH=$PWD/bin:$PATH tools/archive-beside.py ./ci
 status=$?
-if [ -e out/libregistry.a ] && [ "$(cat out/libregistry.a)" != proved ]; then
+if [ -e out/libkupaldiz_proved.a ] && [ "$(cat out/libkupaldiz_proved.a)" != proved ]; then
     echo "an archive that isn't proved"
     exit 0
 fi
@@ -117,11 +133,11 @@ def archive():
     made, unproved, low = 'echo proved >"$made"', f"not proved, status 1:\nbegin {LIMITS}\n", "crates/low/out/rlib/low.rlib"
     faults = (
         *of("ci", ("a library beneath that isn't proved", "the archive is not built", "low proved", "low NOT PROVED"),
-            *((f"{path} is touched meanwhile", "a file that it is proved from was touched", "sleep", f"touch {path}; sleep") for path in TOUCHED),
+            *((f"{path} is touched meanwhile", "a file that it is proved from was touched", "# meanwhile", f"touch {path}") for path in TOUCHED),
             ("a failure of rt ci", "6 passed, 2 failed", "5 passed, 0", "4 passed, 2"),
             ("another status of rt ci", "7 passed, 1 failed", "0 failed\n", "0 failed\nexit 2\n"),
             ("rt ci without its count", "nothing", "echo 5 passed, 0 failed", "echo nothing")),
-        Fault("a library that isn't there", "No such file or directory", ((f"{low}/format", "low", None), ("ci", "sleep", f"rmdir {low}; sleep"))),
+        Fault("a library that isn't there", "No such file or directory", ((f"{low}/format", "low", None), ("ci", "# meanwhile", f"rmdir {low}"))),
         *of("kit/bin/rattle", ("a proof that fails", f"the archive is {unproved}not proved", made, "echo not proved; exit 1"),
             ("a proof that is killed", "its proof was killed", made, "kill -KILL $$"),
             ("a proof for aarch64 that fails", f"the library for aarch64 is {unproved}not there", made,

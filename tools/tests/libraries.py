@@ -4,30 +4,30 @@ from .trees import Fault, case, of, real
 
 # A library is a text here: what nm says of it.
 NM = '#!/bin/sh\nfor library; do :; done\ncat "$library"\n'
-HEADERS = "include/registry.h", "c/include/waiting.h"
-BUILT_FOR = "registry_for_64_cpus_255_slots"
+HEADERS = "include/kupaldiz.h", "c/include/kupaldiz_waiting.h"
+BUILT_FOR = "kupaldiz_for_64_cpus_255_slots_v0_1"
 SYMBOLS = {
     **real("packaging/symbols.sh", "packaging/calls-of.sh"),
-    "include/registry.h": "uint32_t registry_enter(struct registry_cpu *cpu);\nregistry_answer REGISTRY_BUILT_FOR(const struct registry_limits *limits);\n",
-    "include/registry_limits.h": f"#define REGISTRY_BUILT_FOR\t{BUILT_FOR}\n",
-    "c/include/waiting.h": "size_t registry_waits(void);\n",
-    "c/include/registry_check.h": "void registry_holders(void);\n#define registry_enter(cpu) 0\n#define registry_waits() 0\n",
-    "out/libkupaldiz_check.a": "0000 T registry_holders\n0000 T registry_waits\n",
-    "packaging/kupaldiz.map": "KUPALDIZ_0 {\n\tglobal:\n\t\tregistry_enter;\n\t\tregistry_for_*;\n\t\tregistry_waits;\n\tlocal:\n\t\t*;\n};\n",
+    "include/kupaldiz.h": "enum kupaldiz_result kupaldiz_enter(struct kupaldiz_cpu *cpu);\nenum kupaldiz_result KUPALDIZ_BUILT_FOR(const struct kupaldiz_limits *limits);\n",
+    "include/kupaldiz_limits.h": f"#define KUPALDIZ_BUILT_FOR\t{BUILT_FOR}\n",
+    "c/include/kupaldiz_waiting.h": "size_t kupaldiz_waits(void);\n",
+    "c/include/kupaldiz_check.h": "void kupaldiz_holders(void);\n#define kupaldiz_enter(cpu) 0\n#define kupaldiz_waits() 0\n",
+    "out/libkupaldiz_check.a": "0000 T kupaldiz_holders\n0000 T kupaldiz_inner_waits\n",
+    "packaging/kupaldiz.map": "KUPALDIZ_0 {\n\tglobal:\n\t\tkupaldiz_enter;\n\t\tkupaldiz_for_*;\n\t\tkupaldiz_waits;\n\tlocal:\n\t\t*;\n};\n",
     "netbsd/include/kupaldiz/cpu.h": "int cpu_number(void);\nvoid kupaldiz_point(void);\nint kupaldiz_from(void);\n",
-    "netbsd/netbsd.map": "NETBSD_0 {\n\tglobal:\n\t\tkupaldiz_cpu_number;\n\t\tkupaldiz_registry_for_*;\n};\n",
-    "explorer/bench.h": "void bench_thread(const char *name);\n",
-    "explorer/bench.map": "BENCH_0 {\n\tglobal:\n\t\tbench_thread;\n\t\tkupaldiz_from;\n\t\tkupaldiz_point;\n};\n",
+    "netbsd/netbsd.map": "NETBSD_0 {\n\tglobal:\n\t\tkupaldiz_cpu_number;\n\t\tkupaldiz_for_*;\n};\n",
+    "explorer/explorer.h": "void explorer_thread(const char *name);\n",
+    "explorer/explorer.map": "EXPLORER_0 {\n\tglobal:\n\t\texplorer_thread;\n\t\tkupaldiz_from;\n\t\tkupaldiz_point;\n};\n",
     "look": "#!/bin/sh\nNM=$PWD/nm exec packaging/symbols.sh include out -8 1\n",
     "nm": NM,
 }
 LIBRARIES = {
-    "kupaldiz": ("registry_enter", BUILT_FOR, "registry_waits"),
-    "kupaldiz_netbsd": ("kupaldiz_cpu_number", f"kupaldiz_{BUILT_FOR}"),
-    "kupaldiz_bench": ("bench_thread", "kupaldiz_cpu_number", "kupaldiz_from", "kupaldiz_point", f"kupaldiz_{BUILT_FOR}"),
+    "kupaldiz": ("kupaldiz_enter", BUILT_FOR, "kupaldiz_waits"),
+    "kupaldiz_netbsd": ("kupaldiz_cpu_number", "kupaldiz_for_7_cpus"),
+    "kupaldiz_explorer": ("explorer_thread", "kupaldiz_cpu_number", "kupaldiz_from", "kupaldiz_point", "kupaldiz_for_7_cpus_of_explorer"),
 }
 # The node of each map.
-NODES = {"kupaldiz": "KUPALDIZ_0", "kupaldiz_netbsd": "NETBSD_0", "kupaldiz_bench": "BENCH_0"}
+NODES = {"kupaldiz": "KUPALDIZ_0", "kupaldiz_netbsd": "NETBSD_0", "kupaldiz_explorer": "EXPLORER_0"}
 # The layer's parts share these two.
 HIDDEN = {"kupaldiz_netbsd": ("kupaldiz_self", "kupaldiz_places")}
 
@@ -40,7 +40,7 @@ def listing(names, version=""):
 def symbols():
     tree, faults = dict(SYMBOLS), []
     for library, names in LIBRARIES.items():
-        shared, static = f"out/lib{library}-8.so.1", f"out/lib{library}.a"
+        shared, static = f"out/lib{library}{'-8' if library == 'kupaldiz' else ''}.so.1", f"out/lib{library}.a"
         tree |= {shared: f"0000 A {NODES[library]}\n{listing(names, '@@' + NODES[library])}", static: f"\npart.o:\n{listing((*names, *HIDDEN.get(library, ())))}"}
         for path in (shared, static):
             text = tree[path]
@@ -48,17 +48,17 @@ def symbols():
             faults += [
                 Fault(f"a name more: {path}", f"{told}> another", ((path, None, f"{text}0000 T another\n"),)),
                 Fault(f"a name less: {path}", f"{told}< {names[0]}", ((path, names[0], "less"),)),
-                Fault(f"no library: {path}", told if library == "kupaldiz_bench" else f"there is no {path}", ((path, text, None),)),
+                Fault(f"no library: {path}", told if library == "kupaldiz_explorer" else f"there is no {path}", ((path, text, None),)),
             ]
-    faults.append(Fault("another node", "the nodes of libkupaldiz.so: other names", (("out/libkupaldiz-8.so.1", "registry_waits@@KUPALDIZ_0", "registry_waits@@KUPALDIZ_1"),)))
-    # Where there is no library of the bench nothing of it is looked at.
-    faults = [it for it in faults if it.name != "no library: out/libkupaldiz_bench.a"]
-    for path in ("packaging/kupaldiz.map", "netbsd/netbsd.map", "explorer/bench.map"):
-        told = f"{path.rpartition('/')[2].replace('bench.map', 'bench.map and netbsd.map')}: other names than those of the headers\n"
+    faults.append(Fault("another node", "the nodes of libkupaldiz.so: other names", (("out/libkupaldiz-8.so.1", "kupaldiz_waits@@KUPALDIZ_0", "kupaldiz_waits@@KUPALDIZ_1"),)))
+    # Where there is no library of the explorer nothing of it is looked at.
+    faults = [it for it in faults if it.name != "no library: out/libkupaldiz_explorer.a"]
+    for path in ("packaging/kupaldiz.map", "netbsd/netbsd.map", "explorer/explorer.map"):
+        told = f"{path.rpartition('/')[2].replace('explorer.map', 'explorer.map and netbsd.map')}: other names than those of the headers\n"
         faults.append(Fault(f"another name in {path}", f"{told}> another", ((path, "global:\n", "global:\n\t\tanother;\n"),)))
     others = "other names than those of the headers\n<"
-    faults += [*of("c/include/registry_check.h", ("a call that isn't checked", f"check.h: {others} registry_waits", "#define registry_waits() 0\n", "")),
-               *of("out/libkupaldiz_check.a", ("a name less: libkupaldiz_check.a", f"check.a: {others} registry_holders", "registry_holders", "less")),
+    faults += [*of("c/include/kupaldiz_check.h", ("a call that isn't checked", f"check.h: {others} kupaldiz_waits", "#define kupaldiz_waits() 0\n", "")),
+               *of("out/libkupaldiz_check.a", ("a name less: libkupaldiz_check.a", f"check.a: {others} kupaldiz_holders", "kupaldiz_holders", "less")),
                *of("netbsd/include/kupaldiz/lwp.h", ("a call more of the pages", "< kupaldiz_another", None, "int another(void);\n"))]
     case("symbols", [], tree, ["./look"], faults, counts=False)
 
@@ -134,14 +134,14 @@ LIBRARY = """
 #include <stdlib.h>
 #define OWN __attribute__((noinline))
 static OWN int fill(volatile char *at) { char room[100]; for (int i = 0; i < 100; i++) room[i] = at[i]; return room[at[0] & 63]; }
-int registry_enter(volatile char *at) { return fill(at) + 1; }
-int registry_exit(volatile char *at) { char *block = malloc(8); int seen = at[0] + (block != 0); free(block); return seen; }
+int kupaldiz_enter(volatile char *at) { return fill(at) + 1; }
+int kupaldiz_exit(volatile char *at) { char *block = malloc(8); int seen = at[0] + (block != 0); free(block); return seen; }
 """
 
 # A call that goes on in another function by a jump, which no relocation tells.
 JUMPS = r"""static __attribute__((used, noinline)) int wide(volatile char *at) { volatile char room[900]; for (int i = 0; i < 900; i++) room[i] = at[i]; return room[7]; }
-__asm__(".text\n.globl registry_jumps\n.type registry_jumps,@function\nregistry_jumps: .cfi_startproc\njmp wide\n.cfi_endproc\n");
-int registry_enter"""
+__asm__(".text\n.globl kupaldiz_jumps\n.type kupaldiz_jumps,@function\nkupaldiz_jumps: .cfi_startproc\njmp wide\n.cfi_endproc\n");
+int kupaldiz_enter"""
 
 COMPILED = """#!/bin/sh
 gcc -O1 -fno-stack-protector -fcf-protection=none -fno-optimize-sibling-calls -c library.c -o library.o || exit 9
@@ -152,13 +152,13 @@ exec tools/frames.py library.a "$@"
 
 CALL = "return fill(at) + 1;"
 case("frames", ["frames.py"], {"library.c": LIBRARY, "built": COMPILED}, ["./built", "512"], [
-    *of("library.c", ("a call above the limit", "above 512: registry_enter", "char room[100]", "char room[900]"),
-        ("what a call jumps to above it", "above 512: registry_jumps", "int registry_enter", JUMPS),
+    *of("library.c", ("a call above the limit", "above 512: kupaldiz_enter", "char room[100]", "char room[900]"),
+        ("what a call jumps to above it", "above 512: kupaldiz_jumps", "int kupaldiz_enter", JUMPS),
         ("a call through a pointer", "calls through a pointer", CALL, "int (*volatile f)(volatile char *) = fill; return f(at) + 1;"),
-        ("a call that comes back to itself", "registry_enter comes back to itself", CALL, "return at[1] ? registry_enter(at + 1) + fill(at) : 1;"),
-        ("a frame that counts from another register", "registry_enter has no unwind table that counts from the stack pointer", CALL,
+        ("a call that comes back to itself", "kupaldiz_enter comes back to itself", CALL, "return at[1] ? kupaldiz_enter(at + 1) + fill(at) : 1;"),
+        ("a frame that counts from another register", "kupaldiz_enter has no unwind table that counts from the stack pointer", CALL,
          "char room[64] __attribute__((aligned(64))); room[at[0] & 7] = 1; return fill(room);")),
-    Fault("no exports", "library.a has no export", (("library.c", "int registry_enter", "int enter"), ("library.c", "int registry_exit", "int exit_"))),
+    Fault("no exports", "library.a has no export", (("library.c", "int kupaldiz_enter", "int enter"), ("library.c", "int kupaldiz_exit", "int exit_"))),
 ], counts=False)
 
 # An archive's function as objdump shows it, and a program that has it elsewhere, with the places from where it came to a table.

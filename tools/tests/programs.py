@@ -1,5 +1,5 @@
-"""Faults of programs, and those that the checkers beside the layer and the bench are to find: tools/conformance.py, tools/test-program.py,
-tools/before-gate.py, lines.py and names.py of netbsd/tests, told.py of explorer/tests."""
+"""Faults of programs, and those that the checkers beside the layer and the explorer are to find: tools/conformance.py, tools/test-program.py,
+tools/check-forms.py, lines.py and names.py of netbsd/tests, told.py of explorer/tests."""
 import subprocess
 import sys
 
@@ -53,13 +53,13 @@ LINES = "netbsd/tests/lines.py"
 TESTS = "netbsd/tests/**/*.c"
 
 MISUSES, LACKS, TELLS = (f"netbsd/tests/{name}.c" for name in ("misuses", "lacks", "tells"))
-NO, WAITS, HALTS = "no test wants", "waits for a release that is under way", "callout_halt: the thread does not have the lock"
+NO, WAITS, HALTS = "no test wants", "waits for 1 reference, acquired", "callout_halt: the thread does not have the lock"
 case("lines", [], real(LINES, "netbsd/src/*.c", TESTS), [LINES], [
     *of("netbsd/src/psref.c", ("a line that no test wants", f'psref.c: {NO} "the target is gone"', '"the target is not live"', '"the target is gone"')),
     *of("netbsd/src/callout.c", ("a line about what no row of calls is given", f'callout.c: {NO} "the timer was destroyed"', '"the callout")', '"the timer")')),
     *of(MISUSES, ("a line that no test wants any more", f'{NO} "the reference was written over"', "the reference was written over", "the reference is wrong"),
         ("a line that another file's test wants", f'callout.c: {NO} "the thread does not have the lock"', HALTS, "callout_halt: it is free")),
-    *of(TELLS, ("a wait that no test lets last", f'localcount.c: {NO} "{WAITS}"', WAITS, "waits for a release")),
+    *of(TELLS, ("a wait that no test lets last", f'localcount.c: {NO} "{WAITS}%s"', WAITS, "waits for a reference, acquired")),
     *of(LACKS, ("a file of tests that is gone", "lacks isn't there", "#include", None)),
 ])
 
@@ -74,7 +74,7 @@ NAMED[LISTED] = "".join(f"{line}\n" for line in NAMED[LISTED].splitlines() if li
 IMIN = "static inline int imin(int a, int b) { return a < b ? a : b; }\n"
 case("names", [], NAMED, [NAMES, "gcc"], [
     Fault("a call that its header doesn't have", "sys/systm.h: imin isn't there", ((SYSTM, IMIN, ""),)),
-    Fault("a call that the bench doesn't have", "sys/systm.h: imin isn't there", ((SYSTM, IMIN, f"#ifndef KUPALDIZ_BENCH\n{IMIN}#endif\n"),)),
+    Fault("a call that the explorer doesn't have", "sys/systm.h: imin isn't there", ((SYSTM, IMIN, f"#ifndef KUPALDIZ_EXPLORER\n{IMIN}#endif\n"),)),
     Fault("a constant that is none", "sys/types.h: bool isn't there", ((LISTED, "sys/types.h type u_int u_long bool", "sys/types.h constant bool\nsys/types.h type u_int u_long"),)),
     Fault("a name that no test uses", "sys/types.h: no test uses KUPALDIZ_NETBSD_SYS_TYPES_WRAPPED",
           ((LISTED, "sys/types.h macro ", "sys/types.h macro KUPALDIZ_NETBSD_SYS_TYPES_WRAPPED "),)),
@@ -126,8 +126,8 @@ exit 0
 
 LOOKED = {"crates.txt": "one: std\n", SOURCE: "x + 1\n", EDITS: "gate more in src/lib.rt: It adds nothing.\n    x + 1 ==> x\n"
           f"tests less in {SOURCE}: It takes one.\n    x + 1 ==> x - 1\n", "bin/rt": RT,
-          "look": "#!/bin/sh\nPATH=$PWD/bin:$PATH exec tools/before-gate.py \"$@\"\n"}
-case("before-gate", ["before-gate.py", "parts.py", "edits.py"], LOOKED, ["./look"], [
+          "look": "#!/bin/sh\nPATH=$PWD/bin:$PATH exec tools/check-forms.py \"$@\"\n"}
+case("check-forms", ["check-forms.py", "parts.py", "edits.py"], LOOKED, ["./look"], [
     Fault("a file that isn't laid out", "one: formatted src/lib.rt", ((SOURCE, "x + 1", "x + 1 "),)),
     Fault("a file that can't be read", "one: src/lib.rt: it does not parse", ((SOURCE, "x + 1", "x + 1?"),)),
     Fault("an edit whose look is killed", "one/more: status 1: ['rt: killed']", ((EDITS, "==> x\n", "==> x + 3\n"),), ["./look", "compile", "one"]),

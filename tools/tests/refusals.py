@@ -185,7 +185,7 @@ int rest(int a)
 	return a;
 }
 """
-MAKEFILE = """out/%: c/tests/%.c c/src/waiting.c
+MAKEFILE = """out/%: c/tests/%.c c/src/waiting/waits.c
 	@mkdir -p out
 	gcc $(STRICT) -O1 -o $@ $^
 turns = out/turns
@@ -195,7 +195,7 @@ SEES = """int most(int a, int b);
 int rest(int a);
 int main(void) { return most(1, 2) != 2 || most(4, 3) != 4 || rest(3) != 0; }
 """
-ONLY = "c/src/waiting.c"
+ONLY = "c/src/waiting/waits.c"
 
 
 def told(file, *said):
@@ -206,7 +206,7 @@ def told(file, *said):
 
 SURVIVOR = f"survived: {ONLY}:3, comparison: return a < b ? b : a; -> return a <= b ? b : a;"
 RUN = ["tools/mutants.py", "--least", "1", f"{ONLY}:3"]
-MUTATED = {"c/src/waiting.c": WAITING, "c/tests/turns.c": SEES, "c/tests/deferred.c": QUIET, "Makefile": MAKEFILE,
+MUTATED = {"c/src/waiting/waits.c": WAITING, "c/tests/turns.c": SEES, "c/tests/deferred.c": QUIET, "Makefile": MAKEFILE,
            "good": told(ONLY, "return a >= b ? b : a;: killed by turns", SURVIVOR, ": hung by turns")}
 case("mutants", ["mutants.py", "parts.py"], MUTATED, ["./good"], [
     Fault("a test that sees nothing", "return a >= b ? b : a;: survived", (("c/tests/turns.c", "most(1, 2) != 2 || most(4, 3) != 4 || ", ""),), RUN),

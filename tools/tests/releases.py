@@ -14,7 +14,7 @@ COMMANDS = ("gcc", "pkg-config", "cargo", "dpkg-buildpackage", "dh", "lintian")
 DOES_NOTHING = "#!/bin/sh\n"
 CARGO = '#!/bin/sh\nmkdir -p "$CARGO_TARGET_DIR/package" && echo crate >"$CARGO_TARGET_DIR/package/kupaldiz-0.1.0.crate"\n'
 PACKAGES = "#!/bin/sh\necho deb >../libkupaldiz0.1.deb && echo changes >../kupaldiz.changes\n"
-PARTS = ("heap", "composed", "strings", "limits")
+PARTS = ("heap", "strings")
 # tools/proof-record.py and what it takes.
 RECORDS = ("proof-record.py", "limits.py", "parts.py", "kit.py")
 SOURCES = {
@@ -22,9 +22,9 @@ SOURCES = {
     **real("crates/registry_values/src/limits.rt", "crates/registry_values/specs/Limits.antt"),
     **{f"crates/low/{path}": "low\n" for path in ("src/lib.rt", "specs/Lib.antt", "proofs/Lib.antt")},
     "crates/registry_c/src/lib.rt": "face\n",
-    "crates/registry_c/include/registry.h":
-        "#define REGISTRY_VERSION_MAJOR\t0\n#define REGISTRY_VERSION_MINOR\t1\nuint32_t registry_enter(struct registry_cpu *cpu);\n",
-    "crates/registry_c/include/registry_limits.h": "#define REGISTRY_MOST_CPUS\t64\n",
+    "crates/registry_c/include/kupaldiz.h":
+        "#define KUPALDIZ_VERSION_MAJOR\t0\n#define KUPALDIZ_VERSION_MINOR\t1\nuint32_t kupaldiz_enter(struct kupaldiz_cpu *cpu);\n",
+    "crates/registry_c/include/kupaldiz_limits.h": "#define KUPALDIZ_MOST_CPUS\t64\n",
     **{f"c/src/{part}.c": f"/* {part} */\n" for part in PARTS},
 }
 TREE = {
@@ -41,7 +41,7 @@ TREE = {
     # The source that it lays has a Makefile that installs one file.
     "packaging/dist.sh": """#!/bin/bash
 mkdir -p "$2/archive/x86_64" "$2/rust" "$2/man"
-cp out/{libregistry.a,libregistry.proved,registry_limits.h} "$2/archive/x86_64" && cp program "$2/archive/x86_64/registry_run"
+cp out/{libkupaldiz_proved.a,libkupaldiz.proved,kupaldiz_limits.h} "$2/archive/x86_64" && cp program "$2/archive/x86_64/registry_run"
 echo page >"$2/man/registry_run.1"
 printf 'symbols install-examples:\\ninstall:\\n\\tmkdir -p $(DESTDIR)$(PREFIX)\\n\\techo made >$(DESTDIR)$(PREFIX)/file\\n' >"$2/Makefile"
 """,
@@ -84,6 +84,12 @@ def record(tree, built):
             f"object: {hashlib.sha256(built).hexdigest()}\n")
 
 
+def commit_all(tree):
+    who = {**os.environ, "GIT_AUTHOR_NAME": "a", "GIT_AUTHOR_EMAIL": "a@b", "GIT_COMMITTER_NAME": "a", "GIT_COMMITTER_EMAIL": "a@b"}
+    for words in (["init", "-q"], ["add", "-A"], ["commit", "-q", "-m", "all"]):
+        subprocess.run(["git", *words], cwd=tree, check=True, env=who)
+
+
 def prepare(tree):
     """The archive with its record, the commands of the system, and a commit of it all."""
     (tree / "basics").mkdir()
@@ -91,20 +97,18 @@ def prepare(tree):
         (tree / "basics" / name).symlink_to(shutil.which(name))
     out = tree / "out"
     out.mkdir(parents=True)
-    (out / "registry.o").write_text("object\n")
-    subprocess.run(["ar", "rcsD", "libregistry.a", "registry.o"], cwd=out, check=True)
-    (out / "registry.o").unlink()
-    (out / "libregistry.proved").write_text(record(tree, b"object\n"))
-    (out / "registry_limits.h").write_text(SOURCES["crates/registry_c/include/registry_limits.h"])
+    (out / "kupaldiz.o").write_text("object\n")
+    subprocess.run(["ar", "rcsD", "libkupaldiz_proved.a", "kupaldiz.o"], cwd=out, check=True)
+    (out / "kupaldiz.o").unlink()
+    (out / "libkupaldiz.proved").write_text(record(tree, b"object\n"))
+    (out / "kupaldiz_limits.h").write_text(SOURCES["crates/registry_c/include/kupaldiz_limits.h"])
     (tree / "program").chmod(0o755)
-    who = {**os.environ, "GIT_AUTHOR_NAME": "a", "GIT_AUTHOR_EMAIL": "a@b", "GIT_COMMITTER_NAME": "a", "GIT_COMMITTER_EMAIL": "a@b"}
-    for words in (["init", "-q"], ["add", "-A"], ["commit", "-q", "-m", "all"]):
-        subprocess.run(["git", *words], cwd=tree, check=True, env=who)
+    commit_all(tree)
 
 
 COMMIT = "git -c user.name=a -c user.email=a@b commit -qam more"
 # Each kind of file that an archive is made from.
-RECORDED = ("crates.txt", "crates/low/src/lib.rt", "crates/low/specs/Lib.antt", "crates/low/proofs/Lib.antt", "crates/registry_c/include/registry.h", "c/src/heap.c")
+RECORDED = ("crates.txt", "crates/low/src/lib.rt", "crates/low/specs/Lib.antt", "crates/low/proofs/Lib.antt", "crates/registry_c/include/kupaldiz.h", "c/src/heap.c")
 
 
 def shell(*lines):
@@ -119,19 +123,31 @@ def refused(*words):
 
 case("make-release", ["make-release.sh", *RECORDS], TREE, ["./try"], [
     Fault("no lintian", "there is no lintian: apt-get install lintian", command=shell("git rm -q --cached bin/lintian; rm bin/lintian")),
-    Fault("no archive", "there is no out/libregistry.a: tools/build-archive.sh proves and builds it", command=shell("rm out/libregistry.a")),
-    Fault("a record without a verdict", "has no line 'verdict: ..'", command=shell("sed -i '/^verdict/d' out/libregistry.proved")),
-    Fault("a record with other limits", "has other limits than the sources as they stand", command=shell("sed -i 's/--cpus 64/--cpus 16/' out/libregistry.proved")),
-    Fault("another archive", "isn't the archive that", command=shell("echo other >registry.o; ar r out/libregistry.a registry.o; rm registry.o")),
+    Fault("no archive", "there is no out/libkupaldiz_proved.a: tools/build-archive.sh proves and builds it", command=shell("rm out/libkupaldiz_proved.a")),
+    Fault("a record without a verdict", "has no line 'verdict: ..'", command=shell("sed -i '/^verdict/d' out/libkupaldiz.proved")),
+    Fault("a record with other limits", "has other limits than the sources as they stand", command=shell("sed -i 's/--cpus 64/--cpus 16/' out/libkupaldiz.proved")),
+    Fault("another archive", "isn't the archive that", command=shell("echo other >kupaldiz.o; ar r out/libkupaldiz_proved.a kupaldiz.o; rm kupaldiz.o")),
     *(Fault(f"another {path}", "was made from other sources", command=shell(f"echo '#' >>{path}", COMMIT)) for path in RECORDED),
     Fault("no program", "tools/prove-program.sh proves and builds it", command=shell("rm program")),
     Fault("changes that are in no commit", "git commit takes them in", command=shell("echo more >>packaging/INSTALL.md")),
-    Fault("an archive for aarch64 without a record", "build-archive.sh --for aarch64", command=shell("mkdir out/aarch64; cp out/libregistry.a out/aarch64")),
+    Fault("an archive for aarch64 without a record", "build-archive.sh --for aarch64", command=shell("mkdir out/aarch64; cp out/libkupaldiz_proved.a out/aarch64")),
     Fault("a folder that is no release", "it is no release: --to names another folder", command=["./try", "--to", "rust"]),
-    Fault("another version in the crate", "has another version than registry.h", command=shell("sed -i s/0.1.0/0.2.0/ rust/Cargo.toml", COMMIT)),
+    Fault("another version in the crate", "has another version than kupaldiz.h", command=shell("sed -i s/0.1.0/0.2.0/ rust/Cargo.toml", COMMIT)),
     Fault("lintian finds an error", "this failed: lintian", command=shell("echo 'echo E: wrong; exit 1' >>bin/lintian", COMMIT)),
     Fault("a licence, of which nothing is to be said", "no word of the licence", command=shell("sed -i 's/^LICENCE =/LICENCE = MIT/' Makefile", COMMIT)),
 ], counts=False, prepare=prepare)
+
+# The commit that a record names: it says so if one of the sources was changed since.
+NAMES_COMMIT = """#!/bin/sh
+python3 -B -c "import sys; sys.path.insert(0, 'tools')
+import importlib
+print(importlib.import_module('proof-record').commit())" >said
+grep -qE '^[0-9a-f]{40}' said || { echo "it names no commit"; exit 0; }
+! grep ', with changes' said || exit 2
+"""
+case("a record's commit", RECORDS, {**SOURCES, "HANDLES": "", "README.md": "more\n", "try": NAMES_COMMIT}, ["./try"], [
+    Fault(f"{path} is in no commit", ", with changes", command=["sh", "-c", f"echo '#' >>{path}; exec ./try"]) for path in RECORDED
+], counts=False, prepare=commit_all)
 
 # tools/build-archive.sh, where the kit and binutils are ours. The kit says which limits it was given.
 PROVES = """#!/bin/sh
@@ -143,7 +159,7 @@ BUILDS = {
     **SOURCES,
     "HANDLES": "Handles allowed: none.\n",
     "packaging/calls-of.sh": (ROOT / "packaging/calls-of.sh").read_text(),
-    "tools/unwind-tables.py": "#!/bin/sh\n",
+    **{f"tools/{it}.py": DOES_NOTHING for it in ("unwind-tables", "call-headers")},
     "bin/rt": PROVES,
     "try": """#!/bin/sh
 PATH=$PWD/bin:$PATH tools/build-archive.sh "$@" >said 2>&1
@@ -154,22 +170,22 @@ if [ $status -ne 0 ] && [ -n "$(find out -name '*.a')" ]; then
     exit 0
 fi
 [ $status -eq 0 ] || exit $status
-PATH=$PWD/bin:$PATH tools/proof-record.py check out/libregistry.a
+PATH=$PWD/bin:$PATH tools/proof-record.py check out/libkupaldiz_proved.a
 """,
     # An archive with other limits: proved in a copy that has them, with its header and its record.
     "try-other": """#!/bin/sh
 PATH=$PWD/bin:$PATH tools/build-archive.sh --cpus 16 --slots 2^6 >said 2>&1 || { cat said; exit 2; }
 out=out/cpus-16-slots-64
 grep -q 'MOST_CPUS: usize = 16;' said && grep -q 'MOST_SLOTS: usize = 64;' said && grep -q 'MOST_SECTIONS: u64 = 1 << 62;' said || { echo "other limits were proved"; exit 1; }
-grep -q 'MOST_CPUS[^0-9]*16$' $out/registry_limits.h || { echo "the header has other limits"; exit 1; }
-grep -qx 'limits: --cpus 16 --slots 64' $out/libregistry.proved || { echo "the record has other limits"; exit 1; }
-[ ! -e out/libregistry.a ] || { echo "the default's archive was built"; exit 1; }
+grep -q 'MOST_CPUS[^0-9]*16$' $out/kupaldiz_limits.h || { echo "the header has other limits"; exit 1; }
+grep -qx 'limits: --cpus 16 --slots 64' $out/libkupaldiz.proved || { echo "the record has other limits"; exit 1; }
+[ ! -e out/libkupaldiz_proved.a ] || { echo "the default's archive was built"; exit 1; }
 grep -q 'MOST_CPUS: usize = 64;' crates/registry_values/src/limits.rt || { echo "the tree has other limits now"; exit 1; }
 "$@"
-PATH=$PWD/bin:$PATH tools/proof-record.py check $out/libregistry.a
+PATH=$PWD/bin:$PATH tools/proof-record.py check $out/libkupaldiz_proved.a
 """,
 }
-OTHER_RECORD = "out/cpus-16-slots-64/libregistry.proved"
+OTHER_RECORD = "out/cpus-16-slots-64/libkupaldiz.proved"
 BUILD_TOOLS = ["build-archive.sh", *RECORDS]
 # What is asked for, and what is said of it.
 BAD_LIMITS = {
@@ -188,7 +204,7 @@ case("build-archive", BUILD_TOOLS, BUILDS, ["./try"], [
         ("a source that is changed while it is proved", "began with other sources", "mkdir -p out", "echo less >../low/specs/Lib.antt; mkdir -p out")),
     Fault("a library that was proved of other sources", "began with other sources",
           command=["sh", "-c", "./try; rm out/*; mv crates/registry_c/out/libregistry_c.a library; (echo proved: 0; cat said) >log; exec ./try library log"]),
-    Fault("a header that declares no call", "registry.h declares no call", (("crates/registry_c/include/registry.h", "uint32_t registry_enter", "# "),)),
+    Fault("a header that declares no call", "kupaldiz.h declares no call", (("crates/registry_c/include/kupaldiz.h", "uint32_t kupaldiz_enter", "# "),)),
 ], counts=False)
 
 SOURCE = "crates/registry_values/src/limits.rt"
@@ -196,7 +212,7 @@ case("build-archive, other limits", BUILD_TOOLS, BUILDS, ["./try-other"], [
     *of(SOURCE, ("a file of limits without one", "says no MOST_CPUS", "pub const MOST_CPUS", "const MOST_CPUS")),
     *of("crates/registry_values/specs/Limits.antt", ("a range that isn't said", "says no range of MOST_CPUS", "(USUAL_CPUS ≤ MOST_CPUS) ×", "")),
     Fault("another bias since", "was made from other sources", command=["./try-other", "sed", "-i", "s/1 << 48/1 << 49/", SOURCE]),
-    Fault("no archive any more", "build-archive.sh --cpus 16 --slots 64 proves", command=["./try-other", "rm", OTHER_RECORD.replace(".proved", ".a")]),
+    Fault("no archive any more", "build-archive.sh --cpus 16 --slots 64 proves", command=["./try-other", "rm", OTHER_RECORD.replace(".proved", "_proved.a")]),
 ], counts=False)
 
 # Ends with status 1 if a page below laid/ links to what isn't there. A text may go from line to line.
@@ -206,21 +222,21 @@ sys.exit(any(not (page.parent / it).exists() for page, it in links))
 """
 
 # What the scripts of packaging/ say of bad input; the source of a release is laid out whole, or not at all.
-LAID = real("Makefile", "packaging/*.*", "c/programs.mk", "explorer/*.mk", "packaging/debian/*.in", "docs/C.md",
-            "c/examples/client.h", "netbsd/netbsd.map", "netbsd/named.sh", "netbsd/include/sys/param.h", "explorer/bench.h", "c/examples/Makefile", "man/registry.3.in",
+LAID = real("Makefile", "packaging/*.*", "c/programs.mk", "explorer/*.mk", "packaging/debian/*.in", "docs/[CE]*.md", "docs/TUTORIAL-C.md", "docs/tutorial/*",
+            "c/examples/example.h", "netbsd/netbsd.map", "netbsd/named.sh", "netbsd/include/sys/param.h", "explorer/explorer.h", "c/examples/Makefile", "man/kupaldiz.3.in",
             "rust/*.*", "rust/*/packet.rs", "rust/*/lib.rs", "rust/tests/face.rs", "crates/registry_c/include/*.h")
 # An archive with a record, as far as the source of a release asks for them.
-LAID |= {"follows.py": FOLLOWS, "out/libregistry.a": "made\n", "out/libregistry.proved": "made\n"}
+LAID |= {"follows.py": FOLLOWS, "out/libkupaldiz_proved.a": "made\n", "out/libkupaldiz.proved": "made\n"}
 LAID["try"] = """#!/bin/sh
 sed -i 's/^LICENCE =.*/LICENCE = MIT/' packaging/install.mk
-packaging/dist.sh --lay "$PWD/laid" && [ -f laid/archive/x86_64/libregistry.proved ] && grep -qx 'License: MIT' laid/debian/copyright &&
+packaging/dist.sh --lay "$PWD/laid" && [ -f laid/archive/x86_64/libkupaldiz.proved ] && grep -qx 'License: MIT' laid/debian/copyright &&
     grep -qx 'license = "MIT"' laid/rust/Cargo.toml && head -n 1 laid/debian/changelog | grep -q '^kupaldiz ([0-9.]*-1)' && python3 follows.py || { echo "it isn't whole"; exit 1; }
 """
 SCRIPT = "packaging/dist.sh"
 case("packaging's scripts", [], LAID, ["./try"], [
     *of(SCRIPT, ("a licence that is lost", "it isn't whole", "@LICENCE@", "@NONE@"), ("a link to what isn't there", "it isn't whole", '    mend_links "$to"', "    :")),
-    Fault("no archive", "there is no out/libregistry.a: tools/build-archive.sh", command=["sh", "-c", 'rm out/*.a; exec "$@"', "sh", *refused(SCRIPT, "out")]),
-    Fault("no record", "there is no out/libregistry.proved", command=["sh", "-c", 'rm out/*.proved; exec "$@"', "sh", *refused(SCRIPT, "out")]),
+    Fault("no archive", "there is no out/libkupaldiz_proved.a: tools/build-archive.sh", command=["sh", "-c", 'rm out/*.a; exec "$@"', "sh", *refused(SCRIPT, "out")]),
+    Fault("no record", "there is no out/libkupaldiz.proved", command=["sh", "-c", 'rm out/*.proved; exec "$@"', "sh", *refused(SCRIPT, "out")]),
     Fault("no record of another processor", "tools/build-archive.sh --for aarch64 writes it",
           command=["sh", "-c", 'mkdir out/aarch64; cp out/*.a out/aarch64; exec "$@"', "sh",
                    *refused("sh", "-c", 'packaging/dist.sh --lay "$PWD/laid"; status=$?; [ ! -e laid ] && exit $status')]),

@@ -9,19 +9,19 @@ PLACES = (
 )
 LIMITS = "crates/registry_values/src/limits.rt"
 # The header that says the version, which the name of a symbol has.
-VERSION = "crates/registry_c/include/registry.h"
+VERSION = "crates/registry_c/include/kupaldiz.h"
 # The header of all limits, and what it says of each.
-HEADER = "crates/registry_c/include/registry_limits.h"
-COPIES = ("rust/registry_limits.h",)
+HEADER = "crates/registry_c/include/kupaldiz_limits.h"
+COPIES = ("rust/kupaldiz_limits.h",)
 SAID = ("MOST_CPUS\t64", "MOST_SLOTS\t255", "MOST_CHANGES\t(UINT64_C(1) << 40)", "MOST_SECTIONS\t(UINT64_C(1) << 62)", "MOST_COUNT\t(UINT64_C(1) << 40)",
-        "MOST_DEPTH\t255", "BUILT_FOR\tregistry_for_64_cpus_255_slots_v0_1", 'BUILD\t""')
+        "MOST_DEPTH\t255", "BUILT_FOR\tkupaldiz_for_64_cpus_255_slots_v0_1", 'BUILD\t""')
 
 
 def check_limits():
     faults = [Fault(f"another number: {path}, {name}", f"{path}: {name} is", ((path, old, old.replace("64", "63").replace("255", "254")),))
               for path, old, name in PLACES]
     faults += [Fault(f"no number: {path}, {name}", f"{path}: {name} is None", ((path, old, "gone"),)) for path, old, name in PLACES]
-    faults += [Fault(f"another header: {old}", f"{HEADER} isn't what", ((HEADER, f"REGISTRY_{old}", "REGISTRY_OTHER 7"),)) for old in SAID]
+    faults += [Fault(f"another header: {old}", f"{HEADER} isn't what", ((HEADER, f"KUPALDIZ_{old}", "KUPALDIZ_OTHER 7"),)) for old in SAID]
     faults += [Fault(f"another copy: {path}", f"{path} isn't what", ((path, "MOST_CPUS\t64", "MOST_CPUS\t63"),)) for path in COPIES]
     faults.append(Fault("a comparison that isn't counted", "15 passed, 1 failed", ((COPIES[0], "MOST_CPUS\t64", "MOST_CPUS\t63"),)))
     names = [f"{kind}_{it}" for kind in ("MOST", "USUAL") for it in ("CPUS", "SLOTS", "CHANGES", "SECTIONS", "COUNT")] + ["MOST_DEPTH"]
@@ -39,10 +39,10 @@ set -e
 sed -e 's/MOST_CPUS: usize = 64/MOST_CPUS: usize = 16/' -e 's/MOST_SLOTS: usize = 255/MOST_SLOTS: usize = 64/' -e 's/MOST_CHANGES: u64 = .*;/MOST_CHANGES: u64 = 1_000_000;/' {LIMITS} >other.rt
 tools/limits.py header >default.h
 tools/limits.py header other.rt >other.h
-grep -q 'registry_for_64_cpus_255_slots_v0_1$' default.h && grep -q 'REGISTRY_BUILD	""$' default.h
-grep -q 'registry_for_16_cpus_64_slots_v0_1$' other.h && grep -q 'REGISTRY_BUILD	"-16x64"$' other.h
+grep -q 'kupaldiz_for_64_cpus_255_slots_v0_1$' default.h && grep -q 'KUPALDIZ_BUILD	""$' default.h
+grep -q 'kupaldiz_for_16_cpus_64_slots_v0_1$' other.h && grep -q 'KUPALDIZ_BUILD	"-16x64"$' other.h
 for header in default.h other.h; do
-    echo 'extern char all[REGISTRY_MOST_SECTIONS == UINT64_C(1) << 62 && REGISTRY_MOST_CHANGES > 999999 && REGISTRY_MOST_DEPTH == 255 ? 1 : -1];' >text
+    echo 'extern char all[KUPALDIZ_MOST_SECTIONS == UINT64_C(1) << 62 && KUPALDIZ_MOST_CHANGES > 999999 && KUPALDIZ_MOST_DEPTH == 255 ? 1 : -1];' >text
     for language in c c++; do
         cc -Wall -Wextra -Wpedantic -Werror -include ./$header -fsyntax-only -x$language text
     done
@@ -51,7 +51,7 @@ done
 
 case("header of limits", ["limits.py", "parts.py"], {**real(LIMITS, VERSION), "try": MAKES}, ["./try"], [
     *of(LIMITS, *((f"no {it}", f"limits: the file says no {it}", f"const {it}:", f"const SOME_{it}:") for it in ("MOST_CPUS", "MOST_DEPTH"))),
-    *of(VERSION, ("no version", f"limits: {VERSION} says no version", "REGISTRY_VERSION_MINOR\t1", "REGISTRY_VERSION_SMALL\t1")),
+    *of(VERSION, ("no version", f"limits: {VERSION} says no version", "KUPALDIZ_VERSION_MINOR\t1", "KUPALDIZ_VERSION_SMALL\t1")),
 ], counts=False)
 
 IMPORTS = {

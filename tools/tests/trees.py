@@ -7,6 +7,8 @@ import threading
 
 TOOLS = pathlib.Path(__file__).resolve().parent.parent
 ROOT = TOOLS.parent
+# After so many seconds a command is taken to wait for ever. It is generous: a machine may be busy.
+MOST_SECONDS = 3600
 
 # Held while files are written, and while a command is started: a process that is just forked has what is being written open, and a script that anybody
 # has open for writing can't be run. What prepares a tree may start a command, too.
@@ -79,7 +81,7 @@ def said_by(command, tree):
         process = subprocess.Popen(command, cwd=tree, stdin=subprocess.DEVNULL, stdout=subprocess.PIPE, stderr=subprocess.STDOUT, text=True, errors="replace")
     with process:
         try:
-            said, _ = process.communicate(timeout=300)
+            said, _ = process.communicate(timeout=MOST_SECONDS)
         except subprocess.TimeoutExpired:
             process.kill()
             raise

@@ -1,1 +1,3 @@
 pub mod Waits
+pub mod Releases
+pub mod Holds

@@ -1,39 +1,20 @@
 -- A wait from C is as the law of such waits asks, and its handles stay of their registry.
-use Rattle.std.proofs.Common.{◌≡◌, ◌∙◌, ⊎_elim, inl, inr, ℕ, Option, Some, None, Result, Ok, Err, refl, sym, ap, subst, suc, true, false, List, [], IfOk, IfErr, append-nil, eq-eqb}
+use Rattle.std.proofs.Common.{◌≡◌, ◌+◌, ◌≢◌, ◌⊎◌, ◌==◌, if◌then◌else◌, ◌∙◌, ⊎_elim, ℕ, Bool, Option, Some, None, Result, Ok, Err, refl, sym, ap, subst, suc, false, List, [], IfOk, IfErr, append-nil, ne_eqb}
 use Rattle.std.proofs.lemmas.Option.{none-some, same_Some}
-use Rattle.std.proofs.lemmas.Bool.{false≢true}
-use mathlib.Core.List.{IsPrefix}
-use Rattle.c_calls.specs.Types.{Refusal, Change, Entry, Waiting}
+use Rattle.c_calls.specs.Types.{Refusal, Change, Entry, Inside, Waiting, WrongCpu}
 use Rattle.registry_values.specs.Common.{number_of_refusal}
 use Rattle.cpu_words.specs.Common.{Named}
-use Rattle.passive_list.specs.Common.{HasGivenUp, OnPlainCpu, OnPlainKeeper, OnCpu, OnKeeper, HasHeardOn}
-use Rattle.name_registry.specs.Common.{HasAttachedFor, HasDetachedFor, is_inside}
+use Rattle.passive_list.specs.Common.{OnPlainCpu, OnPlainKeeper, OnCpu, OnKeeper, HasHeardOn}
+use Rattle.name_registry.specs.Common.{HasAttachedFor, HasDetachedFor, KeepsWords, is_inside}
 use Rattle.name_registry.proofs.Worked.{prefix_on}
-use Rattle.c_handles.specs.Bodies.{IsReferenceOf, OnLocalBody}
-use Rattle.c_handles.specs.declared.values.plain.TheConstants.{DONE, NOT_COLLECTED}
-use Rattle.c_handles.specs.declared.values.wait.TheConstants.{BEGUN}
+use Rattle.c_handles.specs.Bodies.{IsReferenceOf, OnLocal}
+use Rattle.c_handles.specs.declared.values.plain.TheConstants.{DONE, NOT_BEGUN}
 use Rattle.c_handles.specs.declared.values.wait.CWait.{CWait}
-use Rattle.c_handles.specs.values.Texts.{is_begun}
 use Rattle.c_calls.specs.Calls.{Exits, IsOfCpu, Through}
-use Rattle.c_calls.specs.LocalCalls.{AnswersAcquireInMemory, IsUncollected, LocalAcquireAnswers, LocalGivesUp, ThroughLocal, some_of}
-use Rattle.c_calls.specs.KeeperCalls.{Begins, PerformAnswers, PerformCalls, PerformsAt, TurnAnswers, Turns, TurnsAt, WritesTold, IsTurnOfWait, IsWaitedFor, KnowsAllOf}
-use Rattle.c_callers.specs.{IsCpuOf, IsLocalOf, IsUnderWay}
+use Rattle.c_calls.specs.Turns.{Begins, IsTurnOfWait, IsUnderWay, IsWaitedFor, PerformAnswers, PerformCalls, PerformsAt, TurnAnswers, Turns, TurnsAt, WritesTold, why_refused}
+use Rattle.c_callers.specs.{IsCpuOf, IsLocalOf, IsOn}
 
 -- Handles stay of their registry.
-
-its_words : (a b : OnPlainCpu) (r : Result OnLocalBody Refusal) → AnswersAcquireInMemory a b r (λ v. v) → (v : OnLocalBody) → some_of r ≡ Some v → IsReferenceOf a.words v
-its_words a b (Ok u) is v at = subst (IsReferenceOf a.words) (same_Some u v at) is.answer.1.1
-its_words a b (Err f) is v at = absurd (none-some v at)
-
-pub acquired_here : (w : Named) (c c' : Option OnPlainCpu) (l l' : Option OnLocalBody) (n : ℕ) → IsCpuOf w c → l ≡ None → LocalAcquireAnswers c c' l l' n → IsCpuOf w c' × IsLocalOf w l'
-acquired_here w None c' l l' n of none is =
-    let same = is.empty refl in
-    (λ x at. absurd (none-some x (sym same.1 ∙ at)), λ v at. absurd (none-some v (sym none ∙ (sym same.2 ∙ at))))
-acquired_here w (Some a) c' l l' n of none is =
-    let made = is.made a refl none in (
-      λ x at. ap (λ (o : OnPlainCpu). o.words) (sym (same_Some made.0 x (sym made.1 ∙ at))) ∙ (made.2.acquired.words ∙ of a refl),
-      λ v at. subst (λ (o : Named). IsReferenceOf o v) (of a refl) (its_words a made.0 made.2.r made.2.acquired v (sym made.2.handle ∙ at)),
-    )
 
 exits_words : (a b : OnPlainCpu) (n : ℕ) (o : Option ℕ) → a.cpu.view.begin ≡ o → Exits a b n → b.words ≡ a.words
 exits_words a b n None at is = ap (λ (o : OnPlainCpu). o.words) (is.outside at).1
@@ -45,51 +26,36 @@ exited_here w (Some a) c' n of is =
     let made = is.full a refl in
     λ x at. ap (λ (o : OnPlainCpu). o.words) (sym (same_Some made.0 x (sym made.1 ∙ at))) ∙ (exits_words a made.0 n a.cpu.view.begin refl made.2 ∙ of a refl)
 
-left_here : (w : Named) (k j : OnPlainKeeper) (v : OnLocalBody) (l : Option OnLocalBody) (n : ℕ) → IsReferenceOf w v → LocalGivesUp k v j n l → IsLocalOf w l
-left_here w k j v l n of is = λ u at. ⊎_elim
-    (λ (done : (n ≡ DONE) × HasGivenUp k.keeper v.reference j.keeper × (l ≡ None)). absurd (none-some u (sym done.2 ∙ at)))
-    (λ (kept : (n ≡ NOT_COLLECTED) × (j ≡ k) × (l ≡ Some v) × IsUncollected k v.reference). subst (IsReferenceOf w) (same_Some v u (sym kept.2 ∙ at)) of)
-    is.how
-
-pub given_up_here : (w : Named) (k k' : Option OnPlainKeeper) (l l' : Option OnLocalBody) (n : ℕ) → IsLocalOf w l → ThroughLocal k k' l l' n (λ a v b m. LocalGivesUp a v b n m) → IsLocalOf w l'
-given_up_here w None k' l l' n of is = subst (IsLocalOf w) (sym (is.empty (inl refl)).2) of
-given_up_here w (Some a) k' None l' n of is = subst (IsLocalOf w) (sym (is.empty (inr refl)).2) of
-given_up_here w (Some a) k' (Some v) l' n of is = let made = is.full a v refl refl in left_here w a made.0 v l' n (of v refl) made.2
-
 pub here : (w : Named) (c : Option OnPlainCpu) (x : OnPlainCpu) → c ≡ Some x → x.words ≡ w → IsCpuOf w c
 here w c x is of = λ y at. ap (λ (o : OnPlainCpu). o.words) (sym (same_Some x y (sym is ∙ at))) ∙ of
 
-pub of_cpu : (w : Named) (c : Option OnPlainCpu) (l : Option OnLocalBody) → IsCpuOf w c → IsLocalOf w l → IsOfCpu c l
-of_cpu w c l of at = λ x v has is. subst (λ (o : Named). IsReferenceOf o v) (sym (of x has)) (at v is)
+pub of_cpu : (w : Named) (c : Option OnPlainCpu) (l : Option OnLocal) → IsCpuOf w c → IsLocalOf w l → IsOfCpu c l
+of_cpu w c l of at = λ x v has is. subst (λ (o : Named). IsReferenceOf o v.held) (sym (of x has)) (at v is)
 
--- A wait from C is as the law of such waits asks, by what the bodies of its calls ensure.
+-- A wait from C is as the law of such waits asks, by what its calls on the bodies ensure.
 
 -- What a CPU keeps over a call
 
--- it knows all that it knew, and is inside a section if it was
-pub record IsOn (x y : OnCpu) : Type 0 where
-  pub knows : IsPrefix x.known_log y.known_log
-  pub inside : is_inside y ≡ is_inside x
-
-pub knows_same : (x : OnPlainCpu) → KnowsAllOf x x
-knows_same x = ([], append-nil x.cpu.known_log)
-
-pub knows_more : (x m y : OnPlainCpu) → KnowsAllOf x m → KnowsAllOf m y → KnowsAllOf x y
-knows_more x m y a b = prefix_on x.cpu.known_log m.cpu.known_log y.cpu.known_log a b
-
 same : (x y : OnCpu) → y ≡ x → IsOn x y
-same x y is = record { knows = ([], append-nil x.known_log ∙ ap (λ (o : OnCpu). o.known_log) (sym is)); inside = ap (λ (o : OnCpu). is_inside o) is }
+same x y is = record {
+  knows = ([], append-nil x.known_log ∙ ap (λ (o : OnCpu). o.known_log) (sym is));
+  id = ap (λ (o : OnCpu). o.view.id) is;
+  inside = ap (λ (o : OnCpu). is_inside o) is;
+}
+
+pub same_cpu : (x : OnPlainCpu) → IsOn x.cpu x.cpu
+same_cpu x = same x.cpu x.cpu refl
 
 heard : (h : List Change) (x y : OnCpu) → HasHeardOn h x y → IsOn x y
-heard h x y had = record { knows = had.known_log; inside = ap (λ (o : OnCpu). is_inside o) had.is }
+heard h x y had = record { knows = had.known_log; id = ap (λ (o : OnCpu). o.view.id) had.is; inside = ap (λ (o : OnCpu). is_inside o) had.is }
 
 pub both : (x m y : OnCpu) → IsOn x m → IsOn m y → IsOn x y
-both x m y a b = record { knows = prefix_on x.known_log m.known_log y.known_log a.knows b.knows; inside = b.inside ∙ a.inside }
+both x m y a b = record { knows = prefix_on x.known_log m.known_log y.known_log a.knows b.knows; id = b.id ∙ a.id; inside = b.inside ∙ a.inside }
 
-pub begun_on : (k l : OnPlainKeeper) (x y : OnPlainCpu) (wait : CWait) → Begins k x l y wait → IsOn x.cpu y.cpu
+begun_on : (k l : OnPlainKeeper) (x y : OnPlainCpu) (wait : CWait) → Begins k x l y wait → IsOn x.cpu y.cpu
 begun_on k l x y wait is = heard _ x.cpu y.cpu is.begun.hold.hears
 
-pub turned_on : (k l : OnPlainKeeper) (x y : OnPlainCpu) (told : Option ℕ) (old new : CWait) → Turns k x l y told old new → IsOn x.cpu y.cpu
+turned_on : (k l : OnPlainKeeper) (x y : OnPlainCpu) (told : Option ℕ) (old new : CWait) → Turns k x l y told old new → IsOn x.cpu y.cpu
 turned_on k l x y None old new is = both x.cpu is.cpu y.cpu (heard _ x.cpu is.cpu is.glanced.hold.hears) (heard _ is.cpu y.cpu is.finished.hears)
 turned_on k l x y (Some c) old new is =
     both x.cpu is.cpu y.cpu (heard _ x.cpu is.cpu is.glanced.hold.hears) (same is.cpu y.cpu (ap (λ (p : OnKeeper × OnCpu). p.1) is.finished))
@@ -106,74 +72,77 @@ detached_on a b x y (Err f) made refused = same x.cpu y.cpu (ap (λ (o : OnPlain
 
 -- The calls through handles that have these bodies; `waited` of a turn is null.
 
-begun_call : (k l : OnPlainKeeper) (x y : OnPlainCpu) (first wait : CWait) → is_inside x.cpu ≡ false → Begins k x l y wait
-    → PerformCalls (Some k) (Some x) (Some l) (Some y) DONE (Some first) (Some wait)
-begun_call k l x y first wait out begins =
-    let answers : PerformAnswers k x l y DONE first wait = record { inside = λ within. absurd (false≢true (sym out ∙ within)); outside = λ _. (refl, begins) } in
+both_there : (k : OnPlainKeeper) (x : OnPlainCpu) (X : Type 0) → (Some k ≡ None) ⊎ (Some x ≡ None) → X
+both_there k x X either = absurd (⊎_elim (λ (none : Some k ≡ None). none-some k (sym none)) (λ (none : Some x ≡ None). none-some x (sym none)) either)
+
+begun_call : (k l : OnPlainKeeper) (x y : OnPlainCpu) (first wait : CWait) → PerformAnswers k x l y DONE first wait → PerformCalls (Some k) (Some x) (Some l) (Some y) DONE (Some first) (Some wait)
+begun_call k l x y first wait answers =
     let at : PerformsAt k x l y DONE (Some first) (Some wait) = record {
       null = λ none. absurd (none-some first (sym none));
       there = λ w is. (wait, refl, subst (λ (v : CWait). PerformAnswers k x l y DONE v wait) (same_Some first w is) answers);
     } in
     record {
-      empty = λ either. absurd (⊎_elim (λ (none : Some k ≡ None). none-some k (sym none)) (λ (none : Some x ≡ None). none-some x (sym none)) either);
+      empty = both_there k x _;
       full = λ a b has is. (l, y, refl, refl, subst (λ (p : OnPlainKeeper × OnPlainCpu). PerformsAt p.0 p.1 l y DONE (Some first) (Some wait)) (λ i. (same_Some k a has i, same_Some x b is i)) at);
     }
 
--- what a turn returns, by the CPU that it tells
-abbrev answer_of : Option ℕ → ℕ
-answer_of None = DONE
-answer_of (Some c) = number_of_refusal (Waiting c)
+-- what a turn returns
+abbrev answer_of : Result (Option ℕ) ℕ → ℕ
+answer_of (Ok None) = DONE
+answer_of (Ok (Some c)) = number_of_refusal (Waiting c)
+answer_of (Err e) = e
 
-nothing_written : (told : Option ℕ) → WritesTold told (answer_of told) None None
-nothing_written None = (refl, refl)
-nothing_written (Some c) = (refl, refl)
+nothing_written : (r : Result (Option ℕ) ℕ) → WritesTold r (answer_of r) None None
+nothing_written (Ok None) = (refl, refl)
+nothing_written (Ok (Some c)) = (refl, refl)
+nothing_written (Err e) = (refl, refl)
 
-turned_call : (words : Named) (m : OnPlainCpu) (k l : OnPlainKeeper) (x y : OnPlainCpu) (told : Option ℕ) (old new : CWait) → k.words ≡ words → is_begun old ≡ true → is_inside x.cpu ≡ false
-    → KnowsAllOf m x → Turns k x l y told old new → IsTurnOfWait words m old (answer_of told) y new
-turned_call words m k l x y told old new ours begun out knows turns =
-    let n = answer_of told in
-    let answers : TurnAnswers k x l y n old new None None = record {
-      unbegun = λ not. absurd (false≢true (sym not ∙ begun));
-      inside = λ _ within. absurd (false≢true (sym out ∙ within));
-      outside = λ _ _. (told, turns, nothing_written told);
-    } in
+-- by the wait's CPU m, after any calls
+turned_call : (words : Named) (m : OnPlainCpu) (k l : OnPlainKeeper) (x y : OnPlainCpu) (r : Result (Option ℕ) ℕ) (old new : CWait) → k.words ≡ words → IsOn m.cpu x.cpu
+    → TurnAnswers k x l y r old new → IsTurnOfWait words m old (answer_of r) y new
+turned_call words m k l x y r old new ours on answers =
+    let n = answer_of r in
     let at : TurnsAt k x l y n (Some old) (Some new) None None = record {
       null = λ none. absurd (none-some old (sym none));
-      there = λ w is. (new, refl, subst (λ (v : CWait). TurnAnswers k x l y n v new None None) (same_Some old w is) answers);
+      there = λ w is. (new, refl, r, subst (λ (v : CWait). TurnAnswers k x l y r v new) (same_Some old w is) answers, nothing_written r);
     } in
     record {
       keeper = k;
       cpu = x;
+      left = y;
       ours = ours;
-      knows = knows;
+      after = λ _. on.knows;
+      is_left = record { its = λ _. refl; other = λ not. absurd (not on.id) };
       kept = Some l;
-      before = None;
-      after = None;
+      place = None;
+      told = None;
       call = record {
-        empty = λ either. absurd (⊎_elim (λ (none : Some k ≡ None). none-some k (sym none)) (λ (none : Some x ≡ None). none-some x (sym none)) either);
+        empty = both_there k x _;
         full = λ a b has is. (l, y, refl, refl, subst (λ (p : OnPlainKeeper × OnPlainCpu). TurnsAt p.0 p.1 l y n (Some old) (Some new) None None) (λ i. (same_Some k a has i, same_Some x b is i)) at);
       };
     }
 
 -- From call to call
 
-pub under_way : (k l : OnPlainKeeper) (x y : OnPlainCpu) (first wait : CWait) → is_inside x.cpu ≡ false → Begins k x l y wait → IsUnderWay k.words x y wait
-under_way k l x y first wait out begins = record {
-  keeper = k;
-  ours = refl;
-  kept = Some l;
-  cpu = y;
-  first = first;
-  begun = wait;
-  begins = begun_call k l x y first wait out begins;
-  turns = 0;
-  between = (refl, refl);
-  marked = eq-eqb wait.begun BEGUN begins.marked;
-}
+-- by the answer of a begin outside
+pub record Began (k l : OnPlainKeeper) (x y : OnPlainCpu) (wait : CWait) : Type 0 where
+  pub under : IsUnderWay k.words x y wait
+  pub its : wait.begun ≡ x.cpu.view.id + 1
+  pub on : IsOn x.cpu y.cpu
 
-pub goes_on : (words : Named) (x m : OnPlainCpu) (k l : OnPlainKeeper) (c d : OnPlainCpu) (told : Option ℕ) (old new : CWait) → k.words ≡ words → is_inside c.cpu ≡ false
-    → IsUnderWay words x m old → KnowsAllOf m c → Turns k c l d told old new → IsUnderWay words x d new
-goes_on words x m k l c d told old new ours out is knows turns = record {
+pub began : (k l : OnPlainKeeper) (x y : OnPlainCpu) (n : ℕ) (first wait : CWait) → is_inside x.cpu ≡ false → PerformAnswers k x l y n first wait → Began k l x y wait
+began k l x y n first wait out answers =
+    let made = answers.outside out in
+    let is : PerformAnswers k x l y DONE first wait = subst (λ (a : ℕ). PerformAnswers k x l y a first wait) made.0 answers in
+    record {
+      under = record { keeper = k; ours = refl; kept = Some l; cpu = y; first = first; begun = wait; begins = begun_call k l x y first wait is; turns = 0; between = (refl, refl) };
+      its = made.1.its;
+      on = begun_on k l x y wait made.1;
+    }
+
+pub goes_on : (words : Named) (x m : OnPlainCpu) (k l : OnPlainKeeper) (c d : OnPlainCpu) (r : Result (Option ℕ) ℕ) (old new : CWait) → k.words ≡ words
+    → IsUnderWay words x m old → IsOn m.cpu c.cpu → TurnAnswers k c l d r old new → IsUnderWay words x d new
+goes_on words x m k l c d r old new ours is on answers = record {
   keeper = is.keeper;
   ours = is.ours;
   kept = is.kept;
@@ -182,24 +151,44 @@ goes_on words x m k l c d told old new ours out is knows turns = record {
   begun = is.begun;
   begins = is.begins;
   turns = suc is.turns;
-  between = (m, old, answer_of told, is.between, turned_call words m k l c d told old new ours is.marked out knows turns);
-  marked = ap (λ (w : CWait). is_begun w) turns.wait ∙ is.marked;
+  between = (m, old, answer_of r, is.between, turned_call words m k l c d r old new ours on answers);
 }
 
-pub is_done : (words : Named) (x m : OnPlainCpu) (k l : OnPlainKeeper) (c d : OnPlainCpu) (told : Option ℕ) (old new : CWait) → k.words ≡ words → is_inside c.cpu ≡ false
-    → IsUnderWay words x m old → KnowsAllOf m c → Turns k c l d told old new → told ≡ None → IsWaitedFor words x d
-is_done words x m k l c d told old new ours out is knows turns none = record {
-  keeper = is.keeper;
-  ours = is.ours;
-  kept = is.kept;
-  cpu = is.cpu;
-  first = is.first;
-  begun = is.begun;
-  begins = is.begins;
-  turns = is.turns;
+pub is_done : (words : Named) (x m : OnPlainCpu) (k l : OnPlainKeeper) (c d : OnPlainCpu) (r : Result (Option ℕ) ℕ) (old new : CWait) → k.words ≡ words
+    → IsUnderWay words x m old → IsOn m.cpu c.cpu → TurnAnswers k c l d r old new → r ≡ Ok None → IsWaitedFor words x d
+is_done words x m k l c d r old new ours is on answers none = record {
   near = m;
   left = old;
-  between = is.between;
+  under = is;
   end = new;
-  last = subst (λ (n : ℕ). IsTurnOfWait words m old n d new) (ap answer_of none) (turned_call words m k l c d told old new ours is.marked out knows turns);
+  last = subst (λ (n : ℕ). IsTurnOfWait words m old n d new) (ap answer_of none) (turned_call words m k l c d r old new ours on answers);
 }
+
+-- what a turn keeps, refused or not
+pub record Keeps (k : OnPlainKeeper) (c : OnPlainCpu) (l : OnPlainKeeper) (d : OnPlainCpu) (old new : CWait) : Type 0 where
+  pub its : new.begun ≡ old.begun
+  pub on : IsOn c.cpu d.cpu
+  pub words : KeepsWords k c l d
+
+keeps_by : (k l : OnPlainKeeper) (c d : OnPlainCpu) (r : Result (Option ℕ) ℕ) (old new : CWait) (why : Option ℕ) → why_refused old c.cpu ≡ why → TurnAnswers k c l d r old new → Keeps k c l d old new
+keeps_by k l c d r old new (Some e) at is =
+    let made = is.refused e at in record {
+      its = ap (λ (w : CWait). w.begun) made.3;
+      on = same c.cpu d.cpu (ap (λ (o : OnPlainCpu). o.cpu) made.2);
+      words = (ap (λ (o : OnPlainKeeper). o.words) made.1, ap (λ (o : OnPlainCpu). o.words) made.2);
+    }
+keeps_by k l c d r old new None at is =
+    let made = is.made at in
+    record { its = ap (λ (w : CWait). w.begun) made.2.wait; on = turned_on k l c d made.0 old new made.2; words = made.2.words }
+
+pub keeps : (k l : OnPlainKeeper) (c d : OnPlainCpu) (r : Result (Option ℕ) ℕ) (old new : CWait) → TurnAnswers k c l d r old new → Keeps k c l d old new
+keeps k l c d r old new is = keeps_by k l c d r old new (why_refused old c.cpu) refl is
+
+-- a turn by another CPU is refused
+others : (n i : ℕ) (inside : Bool) → n ≢ 0 → n ≢ i + 1
+    → (if n == 0 then Some NOT_BEGUN else (if n == i + 1 then (if inside then Some (number_of_refusal Inside) else None) else Some (number_of_refusal WrongCpu))) ≡ Some (number_of_refusal WrongCpu)
+others n i inside some other = λ k. if ne_eqb n 0 some k then Some NOT_BEGUN else (if ne_eqb n (i + 1) other k then (if inside then Some (number_of_refusal Inside) else None) else Some (number_of_refusal WrongCpu))
+
+pub other_refused : (k l : OnPlainKeeper) (c d : OnPlainCpu) (r : Result (Option ℕ) ℕ) (old new : CWait) → TurnAnswers k c l d r old new → old.begun ≢ 0 → old.begun ≢ c.cpu.view.id + 1
+    → (r ≡ Err (number_of_refusal WrongCpu)) × (l ≡ k) × (d ≡ c) × (new ≡ old)
+other_refused k l c d r old new is some other = is.refused (number_of_refusal WrongCpu) (others old.begun c.cpu.view.id (is_inside c.cpu) some other)

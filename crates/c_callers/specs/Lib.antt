@@ -1,12 +1,11 @@
--- Waits from C between two of their calls, by handles of one registry.
-use Rattle.std.specs.Prelude.{◌≡◌, Option, Some, ℕ, true}
+-- What calls from C leave of the handles of one registry, and of a CPU.
+use Rattle.std.specs.Prelude.{◌≡◌, Option, Some, ◌≢◌}
+use mathlib.Core.List.{IsPrefix}
 use Rattle.cpu_words.specs.Common.{Named}
-use Rattle.passive_list.specs.Common.{OnPlainCpu, OnPlainKeeper}
-use Rattle.c_handles.specs.Bodies.{IsReferenceOf, OnLocalBody}
-use Rattle.c_handles.specs.declared.values.plain.TheConstants.{DONE}
-use Rattle.c_handles.specs.declared.values.wait.CWait.{CWait}
-use Rattle.c_handles.specs.values.Texts.{is_begun}
-use Rattle.c_calls.specs.KeeperCalls.{PerformCalls, TurnsOn}
+use Rattle.passive_list.specs.Common.{OnCpu, OnPlainCpu}
+use Rattle.name_registry.specs.Common.{is_inside}
+use Rattle.c_handles.specs.Bodies.{IsReferenceOf, OnLocal}
+use Rattle.c_handles.specs.declared.values.plain.CPassive.{CPassive}
 
 -- What is behind handles of one registry.
 
@@ -15,21 +14,20 @@ abbrev pub IsCpuOf : Named → Option OnPlainCpu → Type 0
 IsCpuOf w c = (x : OnPlainCpu) → c ≡ Some x → x.words ≡ w
 
 -- the local reference behind it, if any, is of that registry
-abbrev pub IsLocalOf : Named → Option OnLocalBody → Type 0
-IsLocalOf w l = (v : OnLocalBody) → l ≡ Some v → IsReferenceOf w v
+abbrev pub IsLocalOf : Named → Option OnLocal → Type 0
+IsLocalOf w l = (v : OnLocal) → l ≡ Some v → IsReferenceOf w v.held
 
--- A wait for open sections from C, between two of its calls.
-
--- As `IsWaitedFor` has it up to its last turn: a call of registry_perform_begin by the CPU x began the wait, and turns went on from what it wrote.
--- The last call left its CPU as y, and the wait as `wait`.
-pub record IsUnderWay (words : Named) (x y : OnPlainCpu) (wait : CWait) : Type 0 where
-  pub keeper : OnPlainKeeper
-  pub ours : keeper.words ≡ words
-  pub kept : Option OnPlainKeeper
+-- the reference isn't empty, and names another CPU than the one behind the handle
+pub record IsAnothers (p : CPassive) (c : Option OnPlainCpu) : Type 0 where
   pub cpu : OnPlainCpu
-  pub first : CWait
-  pub begun : CWait
-  pub begins : PerformCalls (Some keeper) (Some x) kept (Some cpu) DONE (Some first) (Some begun)
-  pub turns : ℕ
-  pub between : TurnsOn turns words cpu begun y wait
-  pub marked : is_begun wait ≡ true
+  pub there : c ≡ Some cpu
+  pub held : p.entry.number ≢ 0
+  pub other : p.cpu ≢ cpu.cpu.view.id
+
+-- What a CPU keeps over a call.
+
+-- it knows all that it knew, has its number, and is inside a section if it was
+pub record IsOn (x y : OnCpu) : Type 0 where
+  pub knows : IsPrefix x.known_log y.known_log
+  pub id : y.view.id ≡ x.view.id
+  pub inside : is_inside y ≡ is_inside x

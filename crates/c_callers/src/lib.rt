@@ -3,4 +3,5 @@
 #![tactic(auto)]
 
 pub mod holding;
+pub mod references;
 pub mod waiting;

@@ -1,7 +1,10 @@
+pub mod Both
+pub mod Asked
 pub mod Collected
 pub mod Opened
 pub mod Handles
 pub mod Audited
 pub mod Turned
 pub mod Waits
-pub mod UsualCalls
+pub mod Passives
+pub mod Counted

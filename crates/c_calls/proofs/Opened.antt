@@ -6,15 +6,16 @@ use mathlib.Core.Option.{some-injective, some}
 use lib.ListN.{get_elem?}
 use Rattle.atomic_table.specs.Seated.{TableId}
 use Rattle.atomic_table.proofs.Lists.{at_last}
-use Rattle.c_calls.specs.Types.{Settings, CpuView, BadSettings, MissingCpu}
+use Rattle.c_calls.specs.Types.{Settings, CpuView, BadSettings, Inside, MissingCpu}
 use Rattle.registry_values.specs.Common.{are_fit, number_of_refusal}
 use Rattle.cpu_words.specs.Common.{Seated, new_cpu, AreSeats, Named}
 use Rattle.passive_list.specs.Common.{OnPlainCpu, OnPlainKeeper}
-use Rattle.c_handles.specs.declared.values.plain.TheConstants.{FULL_HANDLE}
+use Rattle.c_handles.specs.declared.values.plain.TheConstants.{DONE, FULL_HANDLE, NULL}
 use Rattle.c_handles.specs.declared.values.plain.CSettings.{CSettings}
 use Rattle.c_handles.specs.values.Texts.{settings_in}
-use Rattle.c_calls.specs.Opening.{AreGiven, body_at, opened_cpu, opened_down, AreEmpty, HasOpened, IsFull, IsSomeFull, Opens, StaysClosed}
-use Rattle.c_calls.proofs.Handles.{at_front, no_body}
+use Rattle.c_handles.specs.declared.handle.KeeperHandle.{KeeperHandle}
+use Rattle.c_calls.specs.Opening.{AreGiven, AreOutside, Closes, OpensNowhere, body_at, is_inside_of, keeper_of, opened_cpu, opened_down, AreEmpty, HasOpened, IsFull, IsSomeFull, IsSomeInside, Opens, OpensBy, OpensFree, StaysClosed}
+use Rattle.c_calls.proofs.Handles.{at_front, no_body, none_past}
 
 -- The seats of new CPUs, taken from the last.
 
@@ -90,35 +91,65 @@ none_full k cs none empty full = ⊎_elim
     full
 
 module _ (given : CSettings) (k k' : Option OnPlainKeeper) (cs cs' : List (Option OnPlainCpu)) where
-  pub bad_settings : are_fit (settings_in given) ≡ false → StaysClosed k k' cs cs' → Opens given k k' cs cs' (number_of_refusal BadSettings)
+  pub bad_settings : are_fit (settings_in given) ≡ false → StaysClosed k k' cs cs' → OpensFree given k k' cs cs' (number_of_refusal BadSettings)
   bad_settings unfit stays = record {
     bad = λ _. (refl, stays);
     missing = λ fit _. absurd (false≢true (sym unfit ∙ fit));
-    full = λ fit _ _. absurd (false≢true (sym unfit ∙ fit));
-    made = λ fit _ _ _. absurd (false≢true (sym unfit ∙ fit));
+    made = λ fit _. absurd (false≢true (sym unfit ∙ fit));
   }
 
-  pub missing_cpu : are_fit (settings_in given) ≡ true → length cs ≢ given.cpus → StaysClosed k k' cs cs' → Opens given k k' cs cs' (number_of_refusal MissingCpu)
+  pub missing_cpu : are_fit (settings_in given) ≡ true → length cs ≢ given.cpus → StaysClosed k k' cs cs' → OpensFree given k k' cs cs' (number_of_refusal MissingCpu)
   missing_cpu fit off stays = record {
     bad = λ unfit. absurd (false≢true (sym unfit ∙ fit));
     missing = λ _ _. (refl, stays);
-    full = λ _ count _. absurd (off count);
-    made = λ _ count _ _. absurd (off count);
+    made = λ _ count. absurd (off count);
   }
 
-  pub full_handle : are_fit (settings_in given) ≡ true → length cs ≡ given.cpus → IsFull k cs → StaysClosed k k' cs cs' → Opens given k k' cs cs' FULL_HANDLE
-  full_handle fit count full stays = record {
+  pub fit_opened : (n : ℕ) → are_fit (settings_in given) ≡ true → length cs ≡ given.cpus → HasOpened (settings_in given) k k' cs cs' n → OpensFree given k k' cs cs' n
+  fit_opened n fit count opened = record {
     bad = λ unfit. absurd (false≢true (sym unfit ∙ fit));
     missing = λ _ off. absurd (off count);
-    full = λ _ _ _. (refl, stays);
-    made = λ _ _ none empty. absurd (none_full k cs none empty full);
+    made = λ _ _. opened;
   }
+
+module _ (given : Option CSettings) (k k' : Option OnPlainKeeper) (cs cs' : List (Option OnPlainCpu)) where
+  pub full_handle : IsFull k cs → StaysClosed k k' cs cs' → Opens given k k' cs cs' FULL_HANDLE
+  full_handle full stays = record { full = λ _. (refl, stays); free = λ none empty. absurd (none_full k cs none empty full) }
 
   -- it came to the opening
-  pub came_to_open : (n : ℕ) → are_fit (settings_in given) ≡ true → length cs ≡ given.cpus → k ≡ None → AreEmpty cs → HasOpened (settings_in given) k k' cs cs' n → Opens given k k' cs cs' n
-  came_to_open n fit count none empty opened = record {
-    bad = λ unfit. absurd (false≢true (sym unfit ∙ fit));
-    missing = λ _ off. absurd (off count);
-    full = λ _ _ full. absurd (none_full k cs none empty full);
-    made = λ _ _ _ _. opened;
-  }
+  pub came_to_open : (n : ℕ) → k ≡ None → AreEmpty cs → OpensBy given k k' cs cs' n → Opens given k k' cs cs' n
+  came_to_open n none empty opened = record { full = λ full. absurd (none_full k cs none empty full); free = λ _ _. opened }
+
+-- A CPU that is inside isn't outside.
+pub none_inside : (cs : List (Option OnPlainCpu)) → AreOutside cs → IsSomeInside cs → ⊥
+none_inside cs outside inside = false≢true (sym (outside inside.0) ∙ inside.1)
+
+-- past the last handle there is nothing inside
+pub all_outside : (cs : List (Option OnPlainCpu)) (n : ℕ) → length cs ≤ n → ((k : ℕ) → k < n → is_inside_of (body_at cs k) ≡ false) → AreOutside cs
+all_outside cs n le below c = ⊎_elim
+    (λ (lt : c < n). below c lt)
+    (λ (ge : n ≤ c). ap is_inside_of (none_past cs c (omega (arith, le, ge))))
+    (cases_lt c n)
+
+-- so they are empty, if each of those that are there is
+pub all_empty : (cs : List (Option OnPlainCpu)) (n : ℕ) → length cs ≤ n → ((k : ℕ) → k < n → body_at cs k ≡ None) → AreEmpty cs
+all_empty cs n le below c = ⊎_elim
+    (λ (lt : c < n). below c lt)
+    (λ (ge : n ≤ c). none_past cs c (omega (arith, le, ge)))
+    (cases_lt c n)
+
+-- What a close answers
+
+pub closes_none : (k k' : Option KeeperHandle) (cs cs' : List (Option OnPlainCpu)) (n : ℕ) → IsSomeInside cs → n ≡ number_of_refusal Inside → k' ≡ k → cs' ≡ cs → Closes k k' cs cs' n
+closes_none k k' cs cs' n had number same stay = record { inside = λ _. (number, same, stay); outside = λ all. absurd (none_inside cs all had) }
+
+pub closes_all : (k k' : Option KeeperHandle) (cs cs' : List (Option OnPlainCpu)) (n : ℕ) → AreOutside cs → n ≡ DONE → keeper_of k' ≡ None → AreEmpty cs' → Closes k k' cs cs' n
+closes_all k k' cs cs' n all number gone empty = record { inside = λ had. absurd (none_inside cs all had); outside = λ _. (number, gone, empty) }
+
+-- What an opening answers that has no handles of CPUs, though it should
+
+pub nowhere_full : (k k' : Option OnPlainKeeper) (a : OnPlainKeeper) → k ≡ Some a → k' ≡ k → OpensNowhere k k' FULL_HANDLE
+nowhere_full k k' a is same = record { full = λ _ _. (refl, same); null = λ none. absurd (no_body k a is none) }
+
+pub nowhere_null : (k k' : Option OnPlainKeeper) → k ≡ None → k' ≡ k → OpensNowhere k k' NULL
+nowhere_null k k' none same = record { full = λ a is. absurd (no_body k a is none); null = λ _. (refl, same) }

@@ -1,13 +1,15 @@
--- What opening a registry answers and leaves.
-use Rattle.std.specs.Prelude.{◌≡◌, ◌≢◌, ◌⊎◌, ℕ, zero, suc, ◌-◌, ◌<◌, List, [], ◌∷◌, ◌++◌, length, map, replicate, get_or, true, false, Option, Some, None}
+-- What opening and closing a registry answer and leave.
+use Rattle.std.specs.Prelude.{◌≡◌, ◌≢◌, ◌⊎◌, ℕ, zero, suc, ◌-◌, ◌<◌, List, [], ◌∷◌, ◌++◌, length, map, replicate, get_or, Bool, true, false, Option, Some, None}
 use mathlib.Core.Option.{some}
 use lib.ListN.{get_elem?}
-use Rattle.c_calls.specs.Types.{BadSettings, MissingCpu, NoMemory, Settings, Vacant, LogItem}
+use Rattle.c_calls.specs.Types.{BadSettings, Inside, MissingCpu, NoMemory, Settings, Vacant, LogItem}
 use Rattle.registry_values.specs.Common.{are_fit, number_of_refusal}
 use Rattle.cpu_words.specs.Common.{keeper_with, Named}
 use Rattle.passive_list.specs.Common.{OnPlainCpu, OnPlainKeeper}
 pub use Rattle.name_registry.specs.Common.{boxed, opened_cpu}
+use Rattle.name_registry.specs.Common.{is_inside}
 use Rattle.c_handles.specs.declared.handle.CpuHandle.{CpuHandle}
+use Rattle.c_handles.specs.declared.handle.KeeperHandle.{KeeperHandle}
 use Rattle.c_handles.specs.declared.values.plain.TheConstants.{DONE, FULL_HANDLE, NULL}
 use Rattle.c_handles.specs.declared.values.plain.CSettings.{CSettings}
 use Rattle.c_handles.specs.values.Places.{DoesBy}
@@ -60,18 +62,54 @@ pub record IsOpen (z : Settings) (k : Option OnPlainKeeper) (cs : List (Option O
 abbrev pub HasOpened : Settings → Option OnPlainKeeper → Option OnPlainKeeper → List (Option OnPlainCpu) → List (Option OnPlainCpu) → ℕ → Type 0
 HasOpened z k k' cs cs' n = ((n ≡ DONE) × IsOpen z k' cs') ⊎ ((n ≡ number_of_refusal NoMemory) × StaysClosed k k' cs cs')
 
--- The answers in the order of the tests; where all are passed, it is opened, or there is no memory.
-pub record Opens (given : CSettings) (k k' : Option OnPlainKeeper) (cs cs' : List (Option OnPlainCpu)) (n : ℕ) : Type 0 where
+-- By handles that are all empty: the answers in the order of the tests; where all are passed, it is opened, or there is no memory.
+pub record OpensFree (given : CSettings) (k k' : Option OnPlainKeeper) (cs cs' : List (Option OnPlainCpu)) (n : ℕ) : Type 0 where
   pub bad : are_fit (settings_in given) ≡ false → (n ≡ number_of_refusal BadSettings) × StaysClosed k k' cs cs'
   pub missing : are_fit (settings_in given) ≡ true → length cs ≢ given.cpus → (n ≡ number_of_refusal MissingCpu) × StaysClosed k k' cs cs'
-  pub full : are_fit (settings_in given) ≡ true → length cs ≡ given.cpus → IsFull k cs → (n ≡ FULL_HANDLE) × StaysClosed k k' cs cs'
-  pub made : are_fit (settings_in given) ≡ true → length cs ≡ given.cpus → k ≡ None → AreEmpty cs → HasOpened (settings_in given) k k' cs cs' n
+  pub made : are_fit (settings_in given) ≡ true → length cs ≡ given.cpus → HasOpened (settings_in given) k k' cs cs' n
 
 -- by settings that were given, or by none
-pub record OpensBy (given : Option CSettings) (k k' : Option OnPlainKeeper) (cs cs' : List (Option OnPlainCpu)) (n : ℕ) : Type 0 where
-  pub null : given ≡ None → (n ≡ NULL) × StaysClosed k k' cs cs'
-  pub with_them : (z : CSettings) → given ≡ Some z → Opens z k k' cs cs' n
+abbrev pub OpensBy : Option CSettings → Option OnPlainKeeper → Option OnPlainKeeper → List (Option OnPlainCpu) → List (Option OnPlainCpu) → ℕ → Type 0
+OpensBy None k k' cs cs' n = (n ≡ NULL) × StaysClosed k k' cs cs'
+OpensBy (Some given) k k' cs cs' n = OpensFree given k k' cs cs' n
+
+-- a handle that isn't empty is refused first
+pub record Opens (given : Option CSettings) (k k' : Option OnPlainKeeper) (cs cs' : List (Option OnPlainCpu)) (n : ℕ) : Type 0 where
+  pub full : IsFull k cs → (n ≡ FULL_HANDLE) × StaysClosed k k' cs cs'
+  pub free : k ≡ None → AreEmpty cs → OpensBy given k k' cs cs' n
+
+-- with no handles of CPUs, though there should be some
+pub record OpensNowhere (k k' : Option OnPlainKeeper) (n : ℕ) : Type 0 where
+  pub full : (a : OnPlainKeeper) → k ≡ Some a → (n ≡ FULL_HANDLE) × (k' ≡ k)
+  pub null : k ≡ None → (n ≡ NULL) × (k' ≡ k)
 
 -- into a row of so many handles
 abbrev pub OpensInto : Option CSettings → Option OnPlainKeeper → Option OnPlainKeeper → ℕ → Option (List CpuHandle) → Option (List CpuHandle) → ℕ → Type 0
-OpensInto given k k' count cpus after n = DoesBy count cpus after ((n ≡ NULL) × (k' ≡ k)) (λ old new. OpensBy given k k' (bodies_of old) (bodies_of new) n)
+OpensInto given k k' count cpus after n = DoesBy count cpus after (OpensNowhere k k' n) (λ old new. Opens given k k' (bodies_of old) (bodies_of new) n)
+
+-- Closing
+
+-- whether the CPU behind a handle is inside a section
+abbrev pub is_inside_of : Option OnPlainCpu → Bool
+is_inside_of None = false
+is_inside_of (Some b) = is_inside b.cpu
+
+abbrev pub AreOutside : List (Option OnPlainCpu) → Type 0
+AreOutside cs = (c : ℕ) → is_inside_of (body_at cs c) ≡ false
+
+abbrev pub IsSomeInside : List (Option OnPlainCpu) → Type 0
+IsSomeInside cs = (c : ℕ) × (is_inside_of (body_at cs c) ≡ true)
+
+-- the keeper behind the handle, if there is a handle
+abbrev pub keeper_of : Option KeeperHandle → Option OnPlainKeeper
+keeper_of None = None
+keeper_of (Some h) = h.body
+
+-- Of the keeper and some CPUs all are closed, or none, if a CPU is inside. Empty handles stay empty.
+pub record Closes (k k' : Option KeeperHandle) (cs cs' : List (Option OnPlainCpu)) (n : ℕ) : Type 0 where
+  pub inside : IsSomeInside cs → (n ≡ number_of_refusal Inside) × (k' ≡ k) × (cs' ≡ cs)
+  pub outside : AreOutside cs → (n ≡ DONE) × (keeper_of k' ≡ None) × AreEmpty cs'
+
+-- of a row of so many handles
+abbrev pub ClosesRow : Option KeeperHandle → Option KeeperHandle → ℕ → Option (List CpuHandle) → Option (List CpuHandle) → ℕ → Type 0
+ClosesRow k k' count cpus after n = DoesBy count cpus after ((n ≡ NULL) × (k' ≡ k)) (λ old new. Closes k k' (bodies_of old) (bodies_of new) n)

@@ -1,6 +1,5 @@
 -- The types of the crates beneath, passed on from one place. Declares nothing.
 pub use Rattle.registry_values.specs.declared.entry.Change.{Change}
-pub use Rattle.registry_values.specs.declared.entry.Change.TheVariants.{Attach}
 pub use Rattle.registry_values.specs.declared.entry.Entry.{Entry}
 pub use Rattle.registry_values.specs.declared.entry.Kind.{Kind}
 pub use Rattle.registry_values.specs.declared.entry.Kind.TheVariants.{Driver, Iface}
@@ -11,17 +10,14 @@ pub use Rattle.registry_values.specs.declared.refusal.Refusal.{Refusal}
 pub use Rattle.registry_values.specs.declared.refusal.Refusal.TheVariants.{BadSettings, HistoryFull, Inside, LocalFull, MissingCpu, NameTaken, NeedsDriver, NoMemory, NoSlot, NotFound, NotHeld}
 pub use Rattle.registry_values.specs.declared.refusal.Refusal.TheVariants.{NotRetired, NothingFound, PassiveFull, SectionsSpent, StillHeld, TooDeep, Waiting, WrongCpu}
 pub use Rattle.registry_values.specs.declared.settings.Settings.{Settings}
-pub use Rattle.registry_values.specs.declared.limits.TheConstants.{MOST_CPUS, MOST_SLOTS}
+pub use Rattle.registry_values.specs.declared.limits.TheConstants.{MOST_CPUS}
 pub use Rattle.registry_values.specs.declared.slot.Key.{Key}
 pub use Rattle.registry_values.specs.declared.slot.Slot.{Slot}
 pub use Rattle.registry_values.specs.declared.slot.Slot.TheVariants.{Live, Retired, Vacant}
 pub use Rattle.registry_values.specs.declared.stage.Stage.{Stage}
 pub use Rattle.registry_values.specs.declared.stage.Stage.TheVariants.{Freed, Grace, Local, Passive}
-pub use Rattle.protocol.specs.declared.event.Event.TheVariants.{Snapshot, Tell}
+pub use Rattle.protocol.specs.declared.event.Event.TheVariants.{Tell}
 pub use Rattle.protocol.specs.declared.event.Reply.TheVariants.{Done}
 pub use Rattle.cpu_words.specs.declared.view.CpuView.{CpuView}
-pub use Rattle.cpu_words.specs.declared.view.KeeperView.{KeeperView}
 pub use Rattle.cpu_words.specs.declared.view.LogItem.{LogItem}
 pub use Rattle.cpu_words.specs.declared.view.ReferenceView.{ReferenceView}
-pub use Rattle.passive_list.specs.declared.keeper.KeptSlot.{KeptSlot}
-pub use Rattle.passive_list.specs.declared.lookup.Seen.{Seen}

@@ -27,7 +27,7 @@ use name_registry::local_on;
 use passive_list::{Keeper, hear_keeper, tell_keeper};
 use registry_values::{MOST_CPUS, MOST_SLOTS, Refusal, Slot, less_bias, sum};
 
-/// `registry_audit` of the header.
+/// `kupaldiz_audit` of the header.
 pub fn audit_registry(
     keeper: &mut KeeperHandle,
     mut cpus: CpusPlace,

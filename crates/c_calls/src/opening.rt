@@ -1,16 +1,17 @@
-//! A registry is opened: the keeper, and its CPUs.
+//! A registry is opened: the keeper, and its CPUs. And they are closed.
 
 ghost use Rattle.std.specs.Prelude.{◌≡◌, length, true, false, IfOk, IfErr, IsTrue, Some, None};
 ghost use Rattle.registry_values.specs.Common.{are_fit};
 ghost use Rattle.cpu_words.specs.Common.{AreSeats, keeper_with};
 ghost use Rattle.passive_list.specs.Common.{OnPlainCpu, OnPlainKeeper};
 ghost use Rattle.c_handles.specs.Heap.{IsLong};
-ghost use Rattle.c_calls.specs.Opening.{AreEmpty, AreGiven, HasOpened, IsFull, IsSomeFull, Opens, OpensBy, OpensInto, StaysClosed, bodies_of, boxed, opened_down, opened_keeper};
+ghost use Rattle.c_calls.specs.Opening.{AreEmpty, AreGiven, AreOutside, Closes, ClosesRow, HasOpened, IsFull, IsSomeFull, IsSomeInside, Opens, OpensBy, OpensFree, OpensInto, OpensNowhere, StaysClosed, bodies_of, boxed, is_inside_of, keeper_of, opened_down, opened_keeper};
 ghost use Rattle.c_handles.specs.values.Texts.{settings_in};
 
-use c_handles::answer::OpenedAnswer;
+use c_handles::answer::{ClosedAnswer, OpenedAnswer};
 use c_handles::handle::{CpuHandle, KeeperHandle};
 use c_handles::heap::CHandle;
+use c_handles::keeper_place::KeeperPlace;
 use c_handles::rows::CpusPlace;
 use c_handles::values::given::GivenSettings;
 use c_handles::values::plain::{CSettings, DONE, FULL_HANDLE, NULL, refused, settings_in};
@@ -21,7 +22,7 @@ use registry_values::{Refusal, Settings};
 use std::alloc::{AllocError, Global};
 use std::sync::Arc;
 
-/// `registry_open` of the header.
+/// `kupaldiz_open` of the header.
 pub fn open_registry(
     alloc: Global,
     mut settings: GivenSettings,
@@ -55,12 +56,24 @@ fn open_at(
         return open_given(alloc, settings, keeper, cpus.row_mut(count));
     }
     if count != 0 {
-        return NULL;
+        return open_nowhere(keeper);
     }
     open_given(alloc, settings, keeper, &mut [])
 }
 
-/// Opens a registry with the settings, if there are any.
+/// The answer where there are no handles of CPUs, though there should be.
+#[tactic(auto, using(crate::proofs::Opened::nowhere_full, crate::proofs::Opened::nowhere_null))]
+fn open_nowhere(keeper: &mut KeeperHandle) -> u32
+    ensures { OpensNowhere keeper.old.body keeper.new.body result }
+{
+    if !keeper.is_empty() {
+        return FULL_HANDLE;
+    }
+    NULL
+}
+
+/// Opens a registry with the settings, if there are any, into the handles, if all are empty.
+#[tactic(auto, using(crate::proofs::Opened::came_to_open, crate::proofs::Opened::full_handle))]
 fn open_given(
     alloc: Global,
     settings: &mut GivenSettings,
@@ -68,23 +81,40 @@ fn open_given(
     cpus: &mut [CpuHandle],
 ) -> u32
     ensures given { settings.new ≡ settings.old }
-    ensures call { OpensBy settings.old.settings keeper.old.body keeper.new.body (bodies_of cpus.old) (bodies_of cpus.new) result }
+    ensures call { Opens settings.old.settings keeper.old.body keeper.new.body (bodies_of cpus.old) (bodies_of cpus.new) result }
 {
-    match settings.settings() {
+    if !are_all_empty(keeper, cpus) {
+        return FULL_HANDLE;
+    }
+    open_free(alloc, settings.settings(), keeper, cpus)
+}
+
+/// Opens a registry with the settings, if there are any. Condition: all handles are empty.
+fn open_free(
+    alloc: Global,
+    settings: Option<CSettings>,
+    keeper: &mut KeeperHandle,
+    cpus: &mut [CpuHandle],
+) -> u32
+    requires empty { (keeper.old.body ≡ None) × AreEmpty (bodies_of cpus.old) }
+    ensures { OpensBy settings keeper.old.body keeper.new.body (bodies_of cpus.old) (bodies_of cpus.new) result }
+{
+    match settings {
         None => NULL,
         Some(given) => open_by(alloc, &given, keeper, cpus),
     }
 }
 
-/// Opens a registry with these settings.
-#[tactic(auto, using(crate::proofs::Handles::count_bodies, crate::proofs::Opened::bad_settings, crate::proofs::Opened::came_to_open, crate::proofs::Opened::full_handle, crate::proofs::Opened::missing_cpu))]
+/// Opens a registry with these settings. Condition: all handles are empty.
+#[tactic(auto, using(crate::proofs::Handles::count_bodies, crate::proofs::Opened::bad_settings, crate::proofs::Opened::fit_opened, crate::proofs::Opened::missing_cpu))]
 fn open_by(
     alloc: Global,
     settings: &CSettings,
     keeper: &mut KeeperHandle,
     cpus: &mut [CpuHandle],
 ) -> u32
-    ensures { Opens settings.now keeper.old.body keeper.new.body (bodies_of cpus.old) (bodies_of cpus.new) result }
+    requires empty { (keeper.old.body ≡ None) × AreEmpty (bodies_of cpus.old) }
+    ensures { OpensFree settings.now keeper.old.body keeper.new.body (bodies_of cpus.old) (bodies_of cpus.new) result }
 {
     let settings = match fit_settings(settings) {
         Ok(settings) => settings,
@@ -93,9 +123,6 @@ fn open_by(
     let count = settings.cpus as usize;
     if cpus.len() != count {
         return refused(Refusal::MissingCpu);
-    }
-    if !are_all_empty(keeper, cpus) {
-        return FULL_HANDLE;
     }
     open_into(alloc, settings, keeper, cpus)
 }
@@ -233,4 +260,92 @@ fn cpus_of(
         cpus.push(Box::new(alloc, body)?)?;
     }
     Ok(cpus)
+}
+
+/// `kupaldiz_close` of the header.
+pub fn close(
+    alloc: Global,
+    mut keeper: KeeperPlace,
+    mut cpus: CpusPlace,
+    count: usize,
+) -> ClosedAnswer
+    requires count { IsLong cpus.value count }
+    ensures places { (result.keeper.at ≡ keeper.at) × (result.cpus.at ≡ cpus.at) }
+    ensures call { ClosesRow keeper.value result.keeper.value count cpus.value result.cpus.value result.number }
+{
+    let answer = close_at(alloc, &mut keeper, &mut cpus, count);
+    ClosedAnswer::of(keeper.answer(answer), cpus)
+}
+
+/// Closes the handles, if there are any or needn't be.
+fn close_at(alloc: Global, keeper: &mut KeeperPlace, cpus: &mut CpusPlace, count: usize) -> u32
+    requires count { IsLong cpus.old.value count }
+    ensures places { (keeper.new.at ≡ keeper.old.at) × (cpus.new.at ≡ cpus.old.at) }
+    ensures call { ClosesRow keeper.old.value keeper.new.value count cpus.old.value cpus.new.value result }
+{
+    if !cpus.is_null() {
+        return close_row(alloc, keeper, cpus.row_mut(count));
+    }
+    if count != 0 {
+        return NULL;
+    }
+    close_row(alloc, keeper, &mut [])
+}
+
+/// Closes the handles, if no CPU is inside.
+#[tactic(auto, using(crate::proofs::Opened::closes_all, crate::proofs::Opened::closes_none))]
+fn close_row(alloc: Global, keeper: &mut KeeperPlace, cpus: &mut [CpuHandle]) -> u32
+    ensures place { keeper.new.at ≡ keeper.old.at }
+    ensures call { Closes keeper.old.value keeper.new.value (bodies_of cpus.old) (bodies_of cpus.new) result }
+{
+    if !are_outside(cpus) {
+        return refused(Refusal::Inside);
+    }
+    close_cpus(alloc, cpus);
+    close_keeper(alloc, keeper);
+    DONE
+}
+
+/// Whether no CPU of the row is inside a section.
+fn are_outside(cpus: &mut [CpuHandle]) -> bool
+    ensures same { bodies_of cpus.new ≡ bodies_of cpus.old }
+    ensures outside { result ≡ true → AreOutside (bodies_of cpus.old) }
+    ensures inside { result ≡ false → IsSomeInside (bodies_of cpus.old) }
+{
+    for c in 0..cpus.len() {
+        if is_inside(&mut cpus[c]) {
+            return false;
+        }
+    }
+    true
+}
+
+/// Whether the CPU behind the handle, if there is one, is inside a section.
+fn is_inside(cpu: &mut CpuHandle) -> bool
+    ensures same { cpu.new.body ≡ cpu.old.body }
+    ensures value { result ≡ is_inside_of cpu.old.body }
+{
+    match cpu.body_mut() {
+        None => false,
+        Some(body) => body.is_inside(),
+    }
+}
+
+/// Closes all of them.
+fn close_cpus(alloc: Global, cpus: &mut [CpuHandle])
+    ensures { AreEmpty (bodies_of cpus.new) }
+{
+    for c in 0..cpus.len() {
+        drop(cpus[c].take_box(alloc));
+    }
+}
+
+/// Closes the keeper, if there is one.
+fn close_keeper(alloc: Global, keeper: &mut KeeperPlace)
+    ensures place { keeper.new.at ≡ keeper.old.at }
+    ensures empty { keeper_of keeper.new.value ≡ None }
+{
+    if let Some(handle) = keeper.handle_mut() {
+        drop(handle.take_box(alloc));
+    }
 }

@@ -20,7 +20,7 @@ use cpu_words::Words;
 use passive_list::{PlainCpu, WritesEntry, walk_on};
 use registry_values::Entry;
 
-/// `registry_walk` of the header.
+/// `kupaldiz_walk` of the header.
 pub fn walk_entries(
     cpu: &mut CpuHandle,
     mut row: EntriesPlace,

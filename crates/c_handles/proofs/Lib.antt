@@ -3,6 +3,7 @@ pub mod Given
 pub mod HeapValues
 pub mod Inside
 pub mod Lent
+pub mod OnHandle
 pub mod LentRow
 pub mod ReadByte
 pub mod SpareSent

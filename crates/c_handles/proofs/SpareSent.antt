@@ -14,14 +14,12 @@ use Rattle.std_alloc.proofs.SendSync.{lies, quiet, crosses}
 use Rattle.std_alloc.specs.contracts.room.vacant.Vacant as Vacant
 use Rattle.std_heap.specs.contracts.Global as heap
 use Rattle.std_heap.specs.contracts.GlobalAllocator.TheImpl.{ghosts}
-use Rattle.registry_values.proofs.entry.Entry.TheSendSync as entry
 use Rattle.cpu_words.proofs.law.Words.TheSendSync as words
 use Rattle.passive_list.proofs.plain_cpu.PlainCpu.TheSendSync as plain
 use Rattle.c_handles.specs.Heap.{holds}
 use Rattle.c_handles.specs.contracts.heap.spare.Spare as Spare
 use Rattle.c_handles.specs.contracts.cpu_body.CpuBody.{the_row}
 use Rattle.c_handles.proofs.Turned.{Word, word}
-use Rattle.c_handles.proofs.acquired.LastAcquired.TheSendSync as acquired
 
 pub keyless : (R : RattleType) → IsSend R → (p : Ptr) (o : Option R.Denot) → Keyless (holds R p o)
 keyless R send p None = λ _. tt
@@ -48,4 +46,4 @@ spare_send R = search (sendable, vacant_send) depth 14
 -- The body of a CPU's handle may go to another thread, with the block that it keeps.
 
 pub cpu_send : IsSend the_row
-cpu_send = search (sendable, crosses, the_frees, words.the_send, words.the_sync, plain.the_send, spare_send, entry.the_send, acquired.the_field_send, acquired.the_send) depth 16
+cpu_send = search (sendable, crosses, the_frees, words.the_send, words.the_sync, plain.the_send, spare_send) depth 16

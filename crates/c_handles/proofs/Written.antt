@@ -1,18 +1,16 @@
--- A text is written byte by byte, and a zero after it; lists by their places.
-use Rattle.std.proofs.Common.{◌≡◌, ℕ, suc, ◌<◌, List, length, get_or, map, refl, arith, ◌≢◌, ⊎_elim, ◌+◌, ◌-◌, ◌≤◌, set, take, Option, Some, None, sym, ap, ◌∙◌, length-set}
+-- A text is written byte by byte, and a zero after it.
+use Rattle.std.proofs.Common.{◌≡◌, ℕ, ◌<◌, List, length, get_or, refl, arith, ◌≢◌, ⊎_elim, ◌+◌, ◌-◌, ◌≤◌, set, take, Option, Some, None, sym, ap, ◌∙◌, length-set, subst, Bool, true, false}
+use Rattle.std.specs.Prelude.{if◌then◌else◌}
 use Rattle.std.proofs.lemmas.Bool.{cases_lt}
-use Rattle.std.proofs.lemmas.List.{ext_get_or, get_or-map, get_or-set_other, get_or-set_same, get_or-take, length-map, length-take-le}
+use Rattle.std.proofs.lemmas.List.{ext_get_or, get_or-set_other, get_or-set_same, get_or-take, length-take-le, get_or_past}
 use mathlib.Core.Logic.{dite}
 use native.Mathlib.Decide.{ℕ_discrete}
 use Rattle.c_handles.specs.Heap.{IsThere, number_at}
-use Rattle.c_handles.specs.values.Texts.{IsWritten}
-
--- Lists by their places.
-
--- what has at each place what f makes of another's is what map makes of it
-pub map_by_place : {X Y : Type 0} (f : X → Y) (xs : List X) (ys : List Y) (e : X) (d : Y) → length ys ≡ length xs → ((k : ℕ) → k < length xs → get_or ys k d ≡ f (get_or xs k e)) → ys ≡ map f xs
-map_by_place f xs ys e d same each =
-    ext_get_or d ys (map f xs) (same ∙ sym (length-map xs f)) (λ i lt. each i (omega (arith, lt, same)) ∙ sym (get_or-map f xs i e d (omega (arith, lt, same))))
+use Rattle.registry_values.specs.Names.{are_key_words}
+use Rattle.registry_values.specs.Common.{key_of_words, bytes_of}
+use Rattle.c_handles.specs.Types.{Name}
+use Rattle.c_handles.specs.declared.values.plain.CName.{CName}
+use Rattle.c_handles.specs.values.Texts.{Formats, IsTextLength, IsWritten, WritesText}
 
 -- A text is written byte by byte, and a zero after it.
 
@@ -35,38 +33,16 @@ copied_more t first new k b lt is so_far = record {
 }
 
 -- the zero after them
-pub written : (t first new : List ℕ) (n : ℕ) → n < length first → n ≤ length t → (length t < length first → n ≡ length t) → (length first ≤ length t → n ≡ length first - 1) → AreCopied t first new n
-    → IsWritten t first (set new n 0)
-written t first new n room few whole cut copied =
-    let here : get_or (set new n 0) n 0 ≡ 0 = get_or-set_same new n 0 0 (omega (arith, room, copied.size)) in
-    record {
-      text = λ k in_text in_room. get_or-set_other new n k 0 0 (λ e. absurd (before k in_text in_room e)) ∙ copied.done k (below k in_text in_room);
-      whole = λ fits. ap (λ i. get_or (set new n 0) i 0) (sym (whole fits)) ∙ here;
-      cut = λ short some. ap (λ i. get_or (set new n 0) i 0) (sym (cut short)) ∙ here;
-      rest = λ k past. get_or-set_other new n k 0 0 (λ e. absurd (omega (arith, past, few, e))) ∙ copied.rest k (omega (arith, past, few));
-    }
-  where
-    below : (k : ℕ) → k < length t → suc k < length first → k < n
-    below k in_text in_room = ⊎_elim
-        (λ (fits : length t < length first). omega (arith, in_text, whole fits))
-        (λ (short : length first ≤ length t). omega (arith, in_room, cut short))
-        (cases_lt (length t) (length first))
-
-    before : (k : ℕ) → k < length t → suc k < length first → k ≡ n → ⊥
-    before k in_text in_room e = omega (arith, below k in_text in_room, e)
-
--- with no room nothing is
-pub not_written : (t first : List ℕ) → length first ≡ 0 → IsWritten t first first
-not_written t first none = record {
-  text = λ k in_text in_room. absurd (omega (arith, in_room, none));
-  whole = λ fits. absurd (omega (arith, fits, none));
-  cut = λ short some. absurd (omega (arith, some, none));
-  rest = λ k past. refl;
+pub written : (t first new : List ℕ) (n : ℕ) → n ≡ length t → length t < length first → AreCopied t first new n → IsWritten t first (set new n 0)
+written t first new n all room copied = record {
+  text = λ k lt. get_or-set_other new n k 0 0 (λ e. absurd (omega (arith, lt, all, e))) ∙ copied.done k (omega (arith, lt, all));
+  zero = ap (λ i. get_or (set new n 0) i 0) (sym all) ∙ get_or-set_same new n 0 0 (omega (arith, room, all, copied.size));
+  rest = λ k past. get_or-set_other new n k 0 0 (λ e. absurd (omega (arith, past, all, e))) ∙ copied.rest k (omega (arith, past, all));
 }
 
 -- the first k of the bytes are in the first places of a row
 pub record AreRead (bytes : Option (List ℕ)) (row : List ℕ) (k : ℕ) : Type 0 where
-  pub size : length row ≡ 15
+  pub size : length row ≡ 16
   pub done : (j : ℕ) → j < k → get_or row j 0 ≡ number_at bytes j
 
 same_first : (n : ℕ) (row xs : List ℕ) → length xs ≡ n → n ≤ length row → ((j : ℕ) → j < n → get_or row j 0 ≡ get_or xs j 0) → take n row ≡ xs
@@ -75,6 +51,65 @@ same_first n row xs count room same =
     ext_get_or 0 (take n row) xs (long ∙ sym count) (λ i lt. get_or-take n row i 0 (omega (arith, lt, long)) ∙ same i (omega (arith, lt, long)))
 
 -- all of them are
-pub all_read : (bytes : Option (List ℕ)) (row : List ℕ) (n : ℕ) → IsThere bytes n → n ≤ 15 → AreRead bytes row n → bytes ≡ Some (take n row)
+pub all_read : (bytes : Option (List ℕ)) (row : List ℕ) (n : ℕ) → IsThere bytes n → n ≤ 16 → AreRead bytes row n → bytes ≡ Some (take n row)
 all_read None row n there few so_far = absurd there
 all_read (Some xs) row n there few so_far = ap Some (sym (same_first n row xs there (omega (arith, few, so_far.size)) so_far.done))
+
+-- How many bytes lead up to the last one that isn't 0, of the first k
+
+pub record IsLengthOf (bytes : List ℕ) (n k : ℕ) : Type 0 where
+  pub few : n ≤ k
+  pub zeros : (j : ℕ) → n ≤ j → j < k → get_or bytes j 0 ≡ 0
+  pub last : 0 < n → get_or bytes (n - 1) 0 ≢ 0
+
+pub none_long : (bytes : List ℕ) → IsLengthOf bytes 0 0
+none_long bytes = record { few = omega arith; zeros = λ j past lt. absurd (omega (arith, lt)); last = λ some. absurd (omega (arith, some)) }
+
+pub longer : (bytes : List ℕ) (n k : ℕ) → get_or bytes k 0 ≢ 0 → IsLengthOf bytes (k + 1) (k + 1)
+longer bytes n k other = record {
+  few = omega arith;
+  zeros = λ j past lt. absurd (omega (arith, past, lt));
+  last = λ some. subst (λ i. get_or bytes i 0 ≢ 0) (omega arith) other;
+}
+
+pub as_long : (bytes : List ℕ) (n k : ℕ) → get_or bytes k 0 ≡ 0 → IsLengthOf bytes n k → IsLengthOf bytes n (k + 1)
+as_long bytes n k none was = record {
+  few = omega (arith, was.few);
+  zeros = λ j past lt. dite (ℕ_discrete j k)
+      (λ (same : j ≡ k). ap (λ i. get_or bytes i 0) same ∙ none)
+      (λ (off : j ≢ k). was.zeros j past (omega (arith, lt, off)));
+  last = was.last;
+}
+
+pub all_long : (bytes : List ℕ) (n : ℕ) → length bytes ≡ 16 → IsLengthOf bytes n 16 → IsTextLength bytes n
+all_long bytes n size was = record {
+  few = was.few;
+  zeros = λ k past. ⊎_elim
+      (λ (lt : k < 16). was.zeros k past lt)
+      (λ (ge : 16 ≤ k). get_or_past bytes k 0 (omega (arith, ge, size)))
+      (cases_lt k 16);
+  last = was.last;
+}
+
+-- A name as a text
+
+-- the two words that a name was made of
+words_are : (high low : ℕ) (m : Name) → key_of_words high low ≡ Some m → m ≡ record { high = high; low = low }
+words_are high low m is = by (are_key_words high low) is
+  where
+    by : (b : Bool) → ◌≡◌ {A = Option Name} (if b then Some (record { high = high; low = low }) else None) (Some m) → m ≡ record { high = high; low = low }
+    by true q = cc
+    by false q = cc
+
+no_words : (o : Option Name) (m : Name) → o ≡ Some m → o ≡ None → ⊥
+no_words o m is none = cc
+
+pub formatted : (name : CName) (m : Name) (bytes : List ℕ) (high low size n : ℕ) (old new : List ℕ) → key_of_words name.high name.low ≡ Some m → high ≡ m.high → low ≡ m.low → bytes ≡ bytes_of high low
+    → IsTextLength bytes size → WritesText (take size bytes) n old new → Formats name n old new
+formatted name m bytes high low size n old new is first second are long writes =
+    let whole = words_are name.high name.low m is in
+    let same : bytes ≡ bytes_of name.high name.low = are ∙ λ i. bytes_of ((first ∙ ap (λ (w : Name). w.high) whole) i) ((second ∙ ap (λ (w : Name). w.low) whole) i) in
+    record {
+      bad = λ none. absurd (no_words (key_of_words name.high name.low) m is none);
+      good = λ w at. (size, subst (λ (b : List ℕ). IsTextLength b size) same long, subst (λ (b : List ℕ). WritesText (take size b) n old new) same writes);
+    }

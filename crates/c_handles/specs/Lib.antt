@@ -1,7 +1,10 @@
 pub mod Bodies
 pub mod Handles
 pub mod Lent
+pub mod OnHandle
 pub mod Places
+pub mod Shares
+pub mod Taken
 pub mod Types
 pub mod values
 pub mod Heap

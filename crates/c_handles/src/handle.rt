@@ -4,6 +4,7 @@ ghost use Rattle.std.specs.Prelude.{◌≡◌, Option};
 ghost use Rattle.passive_list.specs.Common.{OnPlainCpu, OnPlainKeeper};
 ghost use Rattle.c_handles.specs.Bodies.{OnLocalBody};
 
+use crate::copy_body::CopyBody;
 use crate::cpu_body::CpuBody;
 use crate::heap::{CHandle, Handle};
 use crate::keeper_body::KeeperBody;
@@ -112,20 +113,20 @@ impl CHandle for KeeperHandle {
 
 unsafe impl Send for KeeperHandle {}
 
-/// The handle of a local reference. Its `body` is what it points to, if anything.
+/// The block of a local reference's handle. Its `body` is what it points to, if anything.
 #[repr(C)]
-pub struct LocalHandle {
+pub struct LocalBlock {
     at: *mut u8,
     pub ghost body: { Option OnLocalBody },
 }
 
-impl Model for LocalHandle {
+impl Model for LocalBlock {
     ghost use Rattle.c_handles.specs.Handles.{holds_local};
 
     ghost also_owns = { λ h. holds_local h.at h.body };
 }
 
-impl CHandle for LocalHandle {
+impl CHandle for LocalBlock {
     ghost use Rattle.std.specs.Prelude.{Some, refl};
 
     type Body = LocalBody;
@@ -134,17 +135,17 @@ impl CHandle for LocalHandle {
 
     ghost filled = { λ h x. record { at = h.at; body = Some x } };
 
-    fn of_handle(handle: Handle<LocalBody>) -> LocalHandle
+    fn of_handle(handle: Handle<LocalBody>) -> LocalBlock
         ensures { result.body ≡ handle.body }
     {
         let Handle { at } = handle;
-        LocalHandle { at: at as *mut u8 }
+        LocalBlock { at: at as *mut u8 }
     }
 
     fn into_handle(self) -> Handle<LocalBody>
         ensures { result.body ≡ self.body }
     {
-        let LocalHandle { at } = self;
+        let LocalBlock { at } = self;
         Handle {
             at: at as *mut LocalBody,
         }
@@ -161,4 +162,58 @@ impl CHandle for LocalHandle {
     ghost fills = { λ h x. refl };
 }
 
-unsafe impl Send for LocalHandle {}
+unsafe impl Send for LocalBlock {}
+
+// A `&` to it can't be read through: it lends nothing.
+unsafe impl Sync for LocalBlock {}
+
+/// A share of a local reference's block, which copies have. Its `body` is what it points to, if anything.
+#[repr(C)]
+pub struct LocalShare {
+    at: *mut u8,
+    pub ghost body: { Option (Option OnLocalBody) },
+}
+
+impl Model for LocalShare {
+    ghost use Rattle.c_handles.specs.Shares.{holds_copy};
+
+    ghost also_owns = { λ h. holds_copy h.at h.body };
+}
+
+impl CHandle for LocalShare {
+    ghost use Rattle.std.specs.Prelude.{Some, refl};
+
+    type Body = CopyBody;
+
+    ghost body = { λ h. h.body };
+
+    ghost filled = { λ h x. record { at = h.at; body = Some x } };
+
+    fn of_handle(handle: Handle<CopyBody>) -> LocalShare
+        ensures { result.body ≡ handle.body }
+    {
+        let Handle { at } = handle;
+        LocalShare { at: at as *mut u8 }
+    }
+
+    fn into_handle(self) -> Handle<CopyBody>
+        ensures { result.body ≡ self.body }
+    {
+        let LocalShare { at } = self;
+        Handle {
+            at: at as *mut CopyBody,
+        }
+    }
+
+    fn body_mut(&mut self) -> Option<&mut CopyBody> {
+        let at = self.at;
+        if at.is_null() {
+            return None;
+        }
+        Some(unsafe { &mut *(at as *mut CopyBody) })
+    }
+
+    ghost fills = { λ h x. refl };
+}
+
+unsafe impl Send for LocalShare {}

@@ -2,16 +2,20 @@
 //! keeper, a local reference; and the handles, one by one and in rows.
 #![tactic(auto)]
 
-mod acquired;
 pub mod answer;
+mod copy_body;
 mod cpu_body;
 pub mod handle;
 pub mod heap;
 mod keeper_body;
+pub mod keeper_place;
 mod local_body;
+pub mod local_handle;
 pub mod rows;
+pub mod taken;
 pub mod values;
 
+pub use copy_body::{CopyBody, same_copy};
 pub use cpu_body::{CpuBody, same_cpu};
 pub use keeper_body::{KeeperBody, same_keeper};
 pub use local_body::{LocalBody, same_local};

@@ -20,13 +20,13 @@ pub use Rattle.cpu_words.specs.Draining.{CollectTold, HasAdded, HasCollected, Ha
 pub use Rattle.cpu_words.specs.Draining.{MayPassiveLook, MayTotalAdd, MayTotalSub, TotalAddTold, TotalSubTold, keeper_after_join, row_of, with_given_up, HasLooked, HasSnapshot, LookTold, MayGlance}
 pub use Rattle.cpu_words.specs.Draining.{MayLook, MaySnapshot, due_next, keeper_after_look, IsDrained, MayVacate, MayWrite, VacateTold, keeper_after_vacate}
 pub use Rattle.cpu_words.specs.Freed.{EndedRuns, EndsRun, HasClosed, IsGoneFrom, LastView, FreedByKeeper, FreedIsGone, IsGone, AttachedKeeps, KeepsAsLong, KeepsDriver}
-pub use Rattle.cpu_words.specs.Fresh.{HeadsAreNewest, LookupsAreFresh, PassesAreWhole, RecallsAreLive, RefindsAreLive, WholeInTheList, has_sought, history_length, until_reply, with_reply}
+pub use Rattle.cpu_words.specs.Fresh.{HeadsAreNewest, LookupsAreFresh, LookupsAreLinear, PassesAreWhole, RecallsAreLive, RefindsAreLive, WholeInTheList, has_sought, history_length, until_reply, with_reply}
 pub use Rattle.cpu_words.specs.KeeperLog.{AreCountsOf, AreMarksOf, AreSlotsOf, AreTotalsOf, FindsWord, HasHeardFrom, HasPassedOn, HasWaited, IsAttachedKeeping, IsDetachedFrom, IsFreedFrom, IsOwnLog}
 pub use Rattle.cpu_words.specs.KeeperLog.{IsSeenOut, IsShownAfter, IsSnapped, KeepsEntry, KeepsSlot, KnownLogGrows, Standing, WordsGrow, attached, changes_in, changes_of, detached, given_after}
 pub use Rattle.cpu_words.specs.KeeperLog.{given_by, given_up, has_found, has_heard_from, has_looked, has_looked_passive, has_snapped, has_taken, heard_from, is_change_at, is_detach_from, is_drawn}
 pub use Rattle.cpu_words.specs.KeeperLog.{is_there, keeping, keeping_from, keeps_next, names, nothing, number_of, occupant, occupant_after, occupant_from, occupant_of, replied, standing, stands_after}
 pub use Rattle.cpu_words.specs.KeeperLog.{stands_from, sum_below, sum_collected, word_after, word_collected, word_from, word_if, word_in, word_or_none, words_collected}
-pub use Rattle.cpu_words.specs.Publishing.{MayKeep, keeper_after_keep, with_kept, LiveTold, MayHide, MayShow, keeper_after_live, HasPublished, HasUnpublished, IsBefore, IsLinkPlace, LeadsBelow}
+pub use Rattle.cpu_words.specs.Publishing.{MayKeep, keeper_after_keep, with_kept, LiveTold, MayHide, MayShow, keeper_after_live, HasPublished, HasUnpublished, HasRepublished, MayRepublish, RepublishTold, keeper_after_republish, IsBefore, IsLinkPlace, LeadsBelow}
 pub use Rattle.cpu_words.specs.Publishing.{MayPublish, MayUnpublish, PublishTold, UnpublishTold, head_with, keeper_after_unpublish, link_index, links_with, CountStored, HasCountWord, HasLink}
 pub use Rattle.cpu_words.specs.Publishing.{HasRecordWord, LinkStored, RecordStored}
 pub use Rattle.cpu_words.specs.Locals.{CountTold, DownTold, HasCounted, HasCountedDown, HasFoundCollected, HasSplit, HasSplitBack, IsBack, IsMetAlone, IsNetCount, IsPlaceCount, IsTaking, MayCount}
@@ -43,7 +43,7 @@ pub use Rattle.cpu_words.specs.Publishing.LeadsBelow.{To_end, To_slot}
 pub use Rattle.cpu_words.specs.Rule.{Agrees, GoesOn, Good, HaveViews, IsFresh, IsShown, IsShownAs, IsShownCpu, Reached, Ruled, ShowsViews, Sits, by_number, did, log_from, log_item, log_of_events}
 pub use Rattle.cpu_words.specs.Rule.{log_with, number_of_id, number_or_none, reference_to, reply_without_id}
 pub use Rattle.cpu_words.specs.Sections.{Descends, FoundHolds, HasFollowed, HasLoadedLink, HasLoadedWord, HasSearched, HasSought, IsAtWord, LinkHolds, MayLoadLink, MayLoadSearched, MaySeek}
-pub use Rattle.cpu_words.specs.Sections.{MayStandOn, PassTells, SkipsNone, cpu_after_link, cpu_after_record_word, cpu_after_seek, every_word, key_with, link_answer, loaded_answer, loaded_of}
+pub use Rattle.cpu_words.specs.Sections.{KeepsPlace, MayStandOn, PassTells, SkipsNone, cpu_after_link, cpu_after_record_word, cpu_after_seek, every_word, key_with, link_answer, loaded_answer, loaded_of}
 pub use Rattle.cpu_words.specs.Sections.{IsValueThere, search_for, search_with_place, sought, tells_compared, HasEntered, HasExited, HasWholePass, IsIdle, MayEnter, MayExit}
 pub use Rattle.cpu_words.specs.Spots.{AreApart, FirstWordsFree, IsSpot, LinesApart, OnePlace, Spot, count_of, head_word, index, live_of, next_of, owner, passive_of, record_of, rows_from, section_of}
 pub use Rattle.cpu_words.specs.Spots.{stride_of, total_of, word_at, words_of}

@@ -2,11 +2,12 @@
 -- as it enters, as it hears, and as it recalls.
 use Rattle.std.specs.Prelude.{◌≡◌, ℕ, ◌≤◌, List, [], ◌∷◌, ◌++◌, length, take, Option, Some}
 use Rattle.std.specs.List.{AllByRecursion}
+use mathlib.Core.List.{IsPrefix}
 use mathlib.Core.Option.{some}
 use lib.ListN.{get_elem?}
 use Rattle.atomic_table.specs.Table.{State as Table}
 use Rattle.cpu_words.specs.Types.{Key, Entry, Settings, Event, Enter, Hear, Recall, RecallHead, Refind, Confirm, Done, Word}
-use Rattle.protocol.specs.Common.{IsAttached, IsLiveAt, IsNewestAt, opening, seen_at, after, IsLoadOf, answer_of, IsNoSeek, IsFreshAnswer, seek_for}
+use Rattle.protocol.specs.Common.{IsAttached, IsLiveAt, IsLookup, IsNewestAt, opening, seen_at, after, IsLoadOf, answer_of, IsNoSeek, IsFreshAnswer, seek_for}
 use Rattle.cpu_words.specs.declared.view.CpuView.{CpuView}
 use Rattle.cpu_words.specs.declared.view.LogItem.{LogItem}
 use Rattle.cpu_words.specs.declared.view.Logged.{Logged}
@@ -58,10 +59,23 @@ abbrev pub LookupsAreFresh : Type 0
 LookupsAreFresh = (z : Settings) (s : Table ℕ Logged) (r : RunsAsLogged z s) (i : ℕ) (l : Logged) (x : CpuView) (key : Key) (answer : Option Entry) → get_elem? s.views i ≡ some l → l.view ≡ Cpu x
     → (a : HasAnswered x.id key answer l.log) → IsAnsweredFreshly r x.id key answer a
 
--- What a CPU has seen, by the list
-
 abbrev pub history_length : Settings → List Event → ℕ
 history_length z events = length (after (opening z) events).history
+
+-- The search takes effect at one point of the list, between its Seek and its reply: its result is the registry's there.
+pub record TakesEffect {z : Settings} {s : Table ℕ Logged} (r : RunsAsLogged z s) (c : ℕ) (key : Key) (answer : Option Entry) {log : List LogItem} (a : HasAnswered c key answer log) : Type 0 where
+  pub place : IsAnsweredFreshly r c key answer a
+  pub point : List Event
+  pub from : IsPrefix (place.first ++ seek_for c key ∷ []) point
+  pub to : IsPrefix point (with_reply place.first c key place.since place.load)
+  pub answered : IsLookup (after (opening z) point).history (history_length z point) key answer
+
+-- for any list that explains the table: each search in the log of a CPU's seat took effect so
+abbrev pub LookupsAreLinear : Type 0
+LookupsAreLinear = (z : Settings) (s : Table ℕ Logged) (r : RunsAsLogged z s) (i : ℕ) (l : Logged) (x : CpuView) (key : Key) (answer : Option Entry) → get_elem? s.views i ≡ some l → l.view ≡ Cpu x
+    → (a : HasAnswered x.id key answer l.log) → TakesEffect r x.id key answer a
+
+-- What a CPU has seen, by the list
 
 pub record PassesAreWhole {z : Settings} {s : Table ℕ Logged} (r : RunsAsLogged z s) : Type 0 where
   -- as a CPU begins a section, as it hears a note, and as it recalls an entry, its pass becomes the whole history

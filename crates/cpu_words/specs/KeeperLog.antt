@@ -1,9 +1,9 @@
 -- What the keeper's log says, and each prefix of it that a seat has heard. Since a log only grows, what follows from such a prefix stays so.
-use Rattle.std.specs.Prelude.{◌≡◌, ◌⊎◌, ℕ, zero, suc, ◌+◌, ◌*◌, ◌==◌, ◌&&◌, ◌%◌, ◌<◌, ◌≤◌, Bool, true, false, if◌then◌else◌, List, [], ◌∷◌, ◌++◌, length, Option, Some, None}
+use Rattle.std.specs.Prelude.{◌≡◌, ◌⊎◌, ℕ, zero, suc, ◌+◌, ◌*◌, ◌==◌, ◌&&◌, ◌||◌, ◌%◌, ◌<◌, ◌≤◌, Bool, true, false, if◌then◌else◌, List, [], ◌∷◌, ◌++◌, length, Option, Some, None}
 use mathlib.Core.List.{IsPrefix}
-use Rattle.cpu_words.specs.Types.{Event, Hear, Publish, Unpublish, Snapshot, Look, PassiveLook, Collect, JoinKeeper, Keep, KeptSub, Vacate, Reply, Done, Word, MOST_CPUS, Change, Entry, Mark, Slot, Vacant, Live, Retired}
+use Rattle.cpu_words.specs.Types.{Event, Hear, Publish, Unpublish, Republish, Snapshot, Look, PassiveLook, Collect, JoinKeeper, Keep, KeptSub, Vacate, Reply, Done, Word, MOST_CPUS, Change, Entry, Mark, Slot, Vacant, Live, Retired}
 use Rattle.registry_values.specs.Common.{bias, is_retired, slot_at}
-use Rattle.protocol.specs.Common.{addition_due_at, is_adding_at, subtraction_due_at, State, count_at, kept_at, mark_at, total_at, HasMoved, destroyed_slot}
+use Rattle.protocol.specs.Common.{addition_due_at, is_adding_at, subtraction_due_at, State, count_at, kept_at, mark_at, total_at, HasMoved, IsPublishing, destroyed_slot}
 use Rattle.cpu_words.specs.declared.view.KeeperView.{KeeperView}
 use Rattle.cpu_words.specs.declared.view.View.{View}
 use Rattle.cpu_words.specs.declared.view.View.TheVariants.{Keeper}
@@ -34,6 +34,7 @@ pub record HasHeardFrom (by : Option ℕ) (h : Teller) (log : List LogItem) : Ty
 abbrev pub changes_of : Event → ℕ → ℕ
 changes_of (Publish t) n = suc n
 changes_of (Unpublish t) n = suc n
+changes_of (Republish t u) n = suc n
 changes_of e n = n
 
 -- how many changes were made: each Publish is an attach, each Unpublish a detach
@@ -77,6 +78,7 @@ has_looked_passive t c w = log_item (PassiveLook t c) (Word w)
 
 abbrev pub is_detach_from : ℕ → Event → Bool
 is_detach_from t (Unpublish u) = u == t
+is_detach_from t (Republish v u) = u == t
 is_detach_from t e = false
 
 -- none of these is the detach of an entry from the slot t
@@ -123,6 +125,7 @@ number_of (detached n) = n
 abbrev pub stands_after : ℕ → ℕ → Event → Standing → Standing
 stands_after t changes (Publish u) x = if u == t then attached (suc changes) else x
 stands_after t changes (Unpublish u) x = if u == t then detached (number_of x) else x
+stands_after t changes (Republish v u) x = if v == t then attached (suc changes) else if u == t then detached (number_of x) else x
 stands_after t changes e x = x
 
 abbrev pub stands_from : ℕ → ℕ → Standing → List LogItem → Standing
@@ -164,17 +167,20 @@ abbrev pub names : Option ℕ → ℕ → Bool
 names None n = false
 names (Some m) n = m == n
 
--- the entry n was attached in the slot t as that kept a reference to the driver d
+-- the entry n was attached in the slot t, at the head or in another's place, as that kept a reference to the driver d
 pub record IsAttachedKeeping (t n d : ℕ) (log : List LogItem) : Type 0 where
   pub before : List LogItem
   pub after : List LogItem
-  pub are : log ≡ before ++ log_item (Publish t) Done ∷ after
+  pub event : Event
+  pub publishing : IsPublishing t event
+  pub are : log ≡ before ++ log_item event Done ∷ after
   pub number : n ≡ suc (changes_in before)
   pub keeps : keeping t before ≡ Some d
 
 abbrev pub is_change_at : ℕ → Event → Bool
 is_change_at t (Publish u) = u == t
 is_change_at t (Unpublish u) = u == t
+is_change_at t (Republish v u) = v == t || u == t
 is_change_at t e = false
 
 -- none of these is an attach in the slot t, or a detach from it
@@ -202,6 +208,7 @@ WordsGrow log = (c v w : ℕ) (d e : LogItem) (before between after : List LogIt
 
 abbrev pub occupant_after : ℕ → ℕ → Event → Option ℕ → Option ℕ
 occupant_after t changes (Publish u) x = if u == t then Some (suc changes) else x
+occupant_after t changes (Republish v u) x = if v == t then Some (suc changes) else x
 occupant_after t changes (KeptSub u) x = if u == t then None else x
 occupant_after t changes (Vacate u) x = if u == t then None else x
 occupant_after t changes e x = x

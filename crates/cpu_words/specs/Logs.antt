@@ -4,7 +4,7 @@ use mathlib.Core.Option.{some}
 use mathlib.Core.List.{IsPrefix}
 use lib.ListN.{get_elem?}
 use Rattle.atomic_table.specs.Table.{State as Table, Step, Me}
-use Rattle.cpu_words.specs.Types.{Settings, Event, Seat, Enter, Exit, Seek, LoadLink, LoadRecord, StoreSlot, StoreNext, Publish, Unpublish, Tell, Hear, Snapshot, Look, PassiveAdd, PassiveSub, PassiveLook, CountAdd, SplitRef, JoinRef, CountDown, SplitBack, Collect, TotalAdd, JoinKeeper, TotalSub, Keep, KeptSub, Vacate, Show, Hide, Recall, RecallHead, Refind, Try, Confirm, TakeBack, Passive, Local, Compared, Done, Ref}
+use Rattle.cpu_words.specs.Types.{Settings, Event, Seat, Enter, Exit, Seek, LoadLink, LoadRecord, StoreSlot, StoreNext, Publish, Unpublish, Republish, Tell, Hear, Snapshot, Look, PassiveAdd, PassiveSub, PassiveLook, CountAdd, SplitRef, JoinRef, CountDown, SplitBack, Collect, TotalAdd, JoinKeeper, TotalSub, Keep, KeptSub, Vacate, Show, Hide, Recall, RecallHead, Refind, Try, Confirm, TakeBack, Passive, Local, Compared, Done, Ref}
 use Rattle.protocol.specs.declared.event.RecordOf.TheVariants.{Search as OfSearch}
 use Rattle.cpu_words.specs.declared.view.InHand.{InHand}
 use Rattle.cpu_words.specs.declared.view.InHand.TheVariants.{Empty as NoEntry, Taking as TakingEntry, Giving as GivingEntry, Back as BackEntry, Trying as TryingEntry}
@@ -88,6 +88,7 @@ maker (StoreSlot t k v) = the_keeper
 maker (StoreNext t v) = the_keeper
 maker (Publish t) = the_keeper
 maker (Unpublish t) = the_keeper
+maker (Republish t u) = the_keeper
 maker (Tell who) = maker_of_note who
 maker (Hear who) = maker_of_note who
 maker (Snapshot t c) = the_keeper

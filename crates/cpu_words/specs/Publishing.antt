@@ -1,8 +1,9 @@
 -- Publish and Unpublish by the keeper's seat, what it stores before, the driver that a slot keeps, and the live words.
 use Rattle.std.specs.Prelude.{◌≡◌, ℕ, ◌-◌, slice_set, Some, None, suc, ◌+◌, ◌*◌, ◌<◌, ◌≤◌, true, false, List, length, replicate, slice_index_or, Option}
-use Rattle.cpu_words.specs.Types.{Event, StoreSlot, StoreNext, Driver, MOST_CPUS, Entry, Attach, Detach, Publish, Unpublish, Slot, Vacant, Live, Retired, Rest, Snapshots, Show, Hide}
+use Rattle.cpu_words.specs.Types.{Event, StoreSlot, StoreNext, Driver, MOST_CPUS, Entry, Attach, Detach, Replace, Publish, Unpublish, Republish, Slot, Vacant, Live, Retired, Rest, Snapshots, Show, Hide}
 use Rattle.registry_values.specs.Common.{key_of, slot_at, is_taken, live_count, bias, no_mark}
 use Rattle.protocol.specs.Common.{row_at, with_cell, with_word, kept_at, after_change, count_at, total_at, live_at, entry_of, keeps_rightly}
+use Rattle.protocol.specs.History.{rank_at}
 use Rattle.cpu_words.specs.declared.view.KeeperView.{KeeperView}
 use Rattle.cpu_words.specs.declared.view.ReferenceView.{ReferenceView}
 use Rattle.cpu_words.specs.declared.view.View.{View}
@@ -57,15 +58,16 @@ with_kept t v u = Keeper (keeper_after_keep (keeper_of v) t (reference_of u))
 
 -- Publish and Unpublish by the keeper's seat: one store of a link each, which the keeper knows from the live numbers of its own view.
 
--- the link x leads to the greatest live number below n, or to the end where there is none
-pub data LeadsBelow (slots : List Slot) (n : ℕ) : ℕ → Type 0 where
-  To_end : ((t : ℕ) (f : Entry) → slot_at slots t ≡ Live f → f.number < n → ⊥) → LeadsBelow slots n 0
-  To_slot : (t : ℕ) (f : Entry) → slot_at slots t ≡ Live f → f.number < n → ((u : ℕ) (h : Entry) → slot_at slots u ≡ Live h → h.number < n → h.number ≤ f.number) → LeadsBelow slots n (suc t)
+-- the link x leads to the greatest live rank below n, or to the end where there is none
+pub data LeadsBelow (rank : ℕ → ℕ) (slots : List Slot) (n : ℕ) : ℕ → Type 0 where
+  To_end : ((t : ℕ) (f : Entry) → slot_at slots t ≡ Live f → rank f.number < n → ⊥) → LeadsBelow rank slots n 0
+  To_slot : (t : ℕ) (f : Entry) → slot_at slots t ≡ Live f → rank f.number < n → ((u : ℕ) (h : Entry) → slot_at slots u ≡ Live h → rank h.number < n → rank h.number ≤ rank f.number)
+      → LeadsBelow rank slots n (suc t)
 
--- p is the slot with the least live number above n, or None where none is above
-abbrev pub IsBefore : List Slot → ℕ → Option ℕ → Type 0
-IsBefore slots n None = (t : ℕ) (f : Entry) → slot_at slots t ≡ Live f → f.number ≤ n
-IsBefore slots n (Some q) = (f : Entry) × (slot_at slots q ≡ Live f) × (n < f.number) × ((u : ℕ) (h : Entry) → slot_at slots u ≡ Live h → n < h.number → f.number ≤ h.number)
+-- the slot of the live entry with the least rank above n, or none where there is none
+abbrev pub IsBefore : (ℕ → ℕ) → List Slot → ℕ → Option ℕ → Type 0
+IsBefore rank slots n None = (t : ℕ) (f : Entry) → slot_at slots t ≡ Live f → rank f.number ≤ n
+IsBefore rank slots n (Some q) = (f : Entry) × (slot_at slots q ≡ Live f) × (n < rank f.number) × ((u : ℕ) (h : Entry) → slot_at slots u ≡ Live h → n < rank h.number → rank f.number ≤ rank h.number)
 
 -- Publish
 
@@ -78,7 +80,7 @@ pub record MayPublish (k : KeeperView) (t : ℕ) (e : Entry) : Type 0 where
   pub number : e.number ≡ suc (length k.history)
   pub free : is_taken (key_of e) k.slots ≡ false
   pub room : length k.history + live_count k.slots + 2 ≤ k.settings.change_limit
-  pub link : LeadsBelow k.slots (suc (length k.history)) (slice_index_or k.next t 0)
+  pub link : LeadsBelow (rank_at k.history) k.slots (suc (length k.history)) (slice_index_or k.next t 0)
   pub counts : (c : ℕ) → c < k.settings.cpus → count_at k.counts c t ≡ bias
   pub total : total_at k.totals t ≡ bias
   pub keeps : keeps_rightly (kept_at k.keeps t) e.rec.kind ≡ true
@@ -109,8 +111,8 @@ pub record MayUnpublish (k : KeeperView) (t : ℕ) (p : Option ℕ) (v : ℕ) : 
   pub rest : k.due ≡ Rest
   pub e : Entry
   pub live : slot_at k.slots t ≡ Live e
-  pub before : IsBefore k.slots e.number p
-  pub link : LeadsBelow k.slots e.number v
+  pub before : IsBefore (rank_at k.history) k.slots (rank_at k.history e.number) p
+  pub link : LeadsBelow (rank_at k.history) k.slots (rank_at k.history e.number) v
   pub hidden : live_at k.lives t ≡ 0
 
 -- the head and the links, as the link v is stored where the slot before tells
@@ -140,6 +142,46 @@ HasUnpublished k t p v l = (e : Entry) × (slot_at k.slots t ≡ Live e) × (l �
 abbrev pub UnpublishTold : Event → ℕ → ℕ → KeeperView → KeeperView → Type 0
 UnpublishTold (Unpublish t) w v k l = (p : Option ℕ) → link_index p ≡ w → HasUnpublished k t p v l
 UnpublishTold e w v k l = ⊥
+
+-- Republish
+
+-- all is stored in the vacant slot t that the entry e needs to take the place of the slot u's live one, f: its link leads where f's does, and p is the slot before u
+pub record MayRepublish (k : KeeperView) (t u : ℕ) (p : Option ℕ) : Type 0 where
+  pub rest : k.due ≡ Rest
+  pub slot : t < k.settings.slots
+  pub vacant : slot_at k.slots t ≡ Vacant
+  pub e : Entry
+  pub entry : entry_of t (row_at k.rows t) ≡ Some e
+  pub number : e.number ≡ suc (length k.history)
+  pub f : Entry
+  pub live : slot_at k.slots u ≡ Live f
+  pub alike : key_of e ≡ key_of f
+  pub room : length k.history + live_count k.slots + 2 ≤ k.settings.change_limit
+  pub before : IsBefore (rank_at k.history) k.slots (rank_at k.history f.number) p
+  pub link : LeadsBelow (rank_at k.history) k.slots (rank_at k.history f.number) (slice_index_or k.next t 0)
+  pub hidden : live_at k.lives u ≡ 0
+  pub counts : (c : ℕ) → c < k.settings.cpus → count_at k.counts c t ≡ bias
+  pub total : total_at k.totals t ≡ bias
+  pub keeps : keeps_rightly (kept_at k.keeps t) e.rec.kind ≡ true
+
+-- the link before the slot u leads to t; its entry f is retired without marks, and all snapshots are due
+abbrev pub keeper_after_republish : KeeperView → ℕ → ℕ → Entry → Entry → Option ℕ → KeeperView
+keeper_after_republish k t u e f p = record k {
+  head = head_with k.head p (t + 1);
+  next = links_with k.next p (t + 1);
+  history = after_change k.history (Replace f.number (rank_at k.history f.number) e);
+  slots = slice_set (slice_set k.slots t (Live e)) u (Retired f);
+  marks = slice_set k.marks u (replicate MOST_CPUS no_mark);
+  due = Snapshots u 0;
+}
+
+abbrev pub HasRepublished : KeeperView → ℕ → ℕ → Option ℕ → KeeperView → Type 0
+HasRepublished k t u p l = (e : Entry) × (f : Entry) × (entry_of t (row_at k.rows t) ≡ Some e) × (slot_at k.slots u ≡ Live f) × (l ≡ keeper_after_republish k t u e f p)
+
+-- what a replacing tells, by its event and where its word is stored
+abbrev pub RepublishTold : Event → ℕ → KeeperView → KeeperView → Type 0
+RepublishTold (Republish t u) w k l = (p : Option ℕ) → link_index p ≡ w → HasRepublished k t u p l
+RepublishTold e w k l = ⊥
 
 -- The live words, by the keeper's seat: it stores the number of an entry once it is published, and 0 before it is unpublished.
 

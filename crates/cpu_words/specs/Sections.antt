@@ -4,6 +4,7 @@ use mathlib.Core.List.{IsPrefix}
 use Rattle.cpu_words.specs.Types.{Name, Kind, Entry, Change, Settings, MOST_SLOTS, Event, Seek, LoadLink, Reply, Done, Word, Found, Missed, Key, SearchPlace, AtHead, AtNext, AtNumber, AtKind, AtHigh, AtLow, AtValue, RecordWords, Search, Loaded, On, Over}
 use Rattle.registry_values.specs.Names.{are_key_words}
 use Rattle.protocol.specs.Common.{word, words_of, IsAttached, IsLiveAt, IsLegal, IsLawful, StandsOn, loaded_at}
+use Rattle.protocol.specs.History.{rank_at}
 use Rattle.cpu_words.specs.declared.view.InHand.TheVariants.{Empty as NoEntry}
 use Rattle.cpu_words.specs.declared.view.CpuView.{CpuView}
 use Rattle.cpu_words.specs.Rule.{IsShownCpu, did}
@@ -85,15 +86,22 @@ LinkHolds z q (suc t) p = (t < z.slots) × (t < MOST_SLOTS)
 abbrev pub MayStandOn : List Change → Search → ℕ → Entry → Type 0
 MayStandOn p q t e = StandsOn p q.start (length p) t e
 
--- the link n, loaded from the slot s, leads to a smaller number; the pass was p, and is r
+-- the link n, loaded from the slot s, leads to a lower rank; the pass was p, and is r
 abbrev pub Descends : List Change → Search → ℕ → ℕ → List Change → Type 0
 Descends p q s zero r = Unit {0}
-Descends p q s (suc t) r = (e f : Entry) → MayStandOn p q s e → MayStandOn r q t f → f.number < e.number
+Descends p q s (suc t) r = (e f : Entry) → MayStandOn p q s e → MayStandOn r q t f → rank_at r f.number < rank_at r e.number
 
--- The link n leads past no entry below the number `above` that was live after the first `from` changes and is live at the end of the pass r.
+-- f was live after the first `from` changes, and an entry is live in its place at the end of h: f itself, or one that came to stand there by replacements
+pub record KeepsPlace (h : List Change) (from : ℕ) (f : Entry) : Type 0 where
+  pub live : IsLiveAt h from f
+  pub now : Entry
+  pub stays : IsLiveAt h (length h) now
+  pub rank : rank_at h now.number ≡ rank_at h f.number
+
+-- The link n leads past no place below the rank `above` that had an entry after the first `from` changes and has one at the end of the pass r.
 abbrev pub SkipsNone : List Change → ℕ → ℕ → ℕ → Type 0
-SkipsNone r from above zero = (f : Entry) → IsLiveAt r from f → IsLiveAt r (length r) f → f.number < above → ⊥
-SkipsNone r from above (suc t) = (e f : Entry) → StandsOn r from (length r) t e → IsLiveAt r from f → IsLiveAt r (length r) f → f.number < above → f.number ≤ e.number
+SkipsNone r from above zero = (f : Entry) → KeepsPlace r from f → rank_at r f.number < above → ⊥
+SkipsNone r from above (suc t) = (e f : Entry) → StandsOn r from (length r) t e → KeepsPlace r from f → rank_at r f.number < above → rank_at r f.number ≤ rank_at r e.number
 
 -- what a search that started at `from` tells of its pass r, and of when its section began
 pub record PassTells (begin : Option ℕ) (from : ℕ) (r : List Change) : Type 0 where
@@ -111,7 +119,7 @@ pub record HasFollowed (x : CpuView) (q : Search) (n : ℕ) (y : CpuView) : Type
   pub tells : PassTells x.begin q.start y.pass
   -- the head leads to the newest, the link of an entry's slot to the next one below its number
   pub first : q.place ≡ AtHead → SkipsNone y.pass q.start (suc (length y.pass)) n
-  pub next : (s : ℕ) (e : Entry) → q.place ≡ AtNext s → MayStandOn x.pass q s e → SkipsNone y.pass q.start e.number n
+  pub next : (s : ℕ) (e : Entry) → q.place ≡ AtNext s → MayStandOn x.pass q s e → SkipsNone y.pass q.start (rank_at y.pass e.number) n
 
 -- the search that is under way has loaded the link n
 abbrev pub HasLoadedLink : CpuView → ℕ → CpuView → Type 0

@@ -1,6 +1,6 @@
 -- The types of the crates beneath, passed on from one place. Declares nothing.
 pub use Rattle.registry_values.specs.declared.entry.Change.{Change}
-pub use Rattle.registry_values.specs.declared.entry.Change.TheVariants.{Attach, Detach}
+pub use Rattle.registry_values.specs.declared.entry.Change.TheVariants.{Attach, Detach, Replace}
 pub use Rattle.registry_values.specs.declared.entry.Entry.{Entry}
 pub use Rattle.registry_values.specs.declared.entry.Kind.{Kind}
 pub use Rattle.registry_values.specs.declared.entry.Kind.TheVariants.{Driver, Iface}
@@ -13,7 +13,7 @@ pub use Rattle.registry_values.specs.declared.slot.Slot.{Slot}
 pub use Rattle.registry_values.specs.declared.slot.Slot.TheVariants.{Live, Retired, Vacant}
 pub use Rattle.protocol.specs.declared.event.Event.{Event}
 pub use Rattle.protocol.specs.declared.event.Event.TheVariants.{Collect, CountAdd, CountDown, Enter, Exit, Hear, JoinKeeper, JoinRef, Keep, KeptSub, LoadLink, LoadRecord, Look, PassiveAdd}
-pub use Rattle.protocol.specs.declared.event.Event.TheVariants.{PassiveLook, PassiveSub, Publish, Seat, Seek, Snapshot, SplitBack, SplitRef, StoreNext, StoreSlot, Tell, TotalAdd, TotalSub, Unpublish}
+pub use Rattle.protocol.specs.declared.event.Event.TheVariants.{PassiveLook, PassiveSub, Publish, Seat, Seek, Snapshot, SplitBack, SplitRef, StoreNext, StoreSlot, Tell, TotalAdd, TotalSub, Republish, Unpublish}
 pub use Rattle.protocol.specs.declared.event.Event.TheVariants.{Confirm, Hide, Recall, RecallHead, Refind, Show, TakeBack, Try, Vacate}
 pub use Rattle.protocol.specs.declared.event.RecordOf.{RecordOf}
 pub use Rattle.protocol.specs.declared.event.RecordOf.TheVariants.{Compared, Local, Passive}

@@ -4,13 +4,14 @@ ghost use Rattle.cpu_words.specs.Headline.{DrainedIsFree, FoundIsHeld, HeldHaveS
 ghost use Rattle.cpu_words.specs.Freed.{EndedRuns, FreedByKeeper, FreedIsGone, AttachedKeeps};
 ghost use Rattle.cpu_words.specs.Called.{CpuHearsLater, EndsOpenSections, KeeperHearsLater};
 ghost use Rattle.cpu_words.specs.Waiting.{WaitingEnds, OrderedInTime};
-ghost use Rattle.cpu_words.specs.Fresh.{HeadsAreNewest, LookupsAreFresh, RecallsAreLive, RefindsAreLive, WholeInTheList};
+ghost use Rattle.cpu_words.specs.Fresh.{HeadsAreNewest, LookupsAreFresh, LookupsAreLinear, RecallsAreLive, RefindsAreLive, WholeInTheList};
 
 /// The running headline, no effect at run time: what holds in every table under the rule (`LoggedRuled`); see GUARANTEES.md.
 ///
 /// - `run`: some list of events leads to what the words and views show, and obeys the protocol's laws.
 /// - `held`: an entry that anything holds has its slot.
 /// - `fresh`: a search's result was the registry's between its Seek and its last load.
+/// - `linear`: it takes effect at one point of the list between these, where it is the registry's.
 /// - `whole`: Enter, Hear, Recall, RecallHead, Refind and Confirm see the whole history.
 /// - `recalled`: an entry that a CPU recalled was live as its live word was loaded, by that load's place in the list.
 /// - `refound`: so was one that a CPU found again.
@@ -22,7 +23,7 @@ ghost use Rattle.cpu_words.specs.Fresh.{HeadsAreNewest, LookupsAreFresh, Recalls
 /// - `waiting`: earlier sections have ended.
 /// - `freed`, `freed_by`: nothing holds a detached entry whose slot was vacated.
 /// - `kept`: an interface's slot keeps its driver.
-#[tactic(auto, using(crate::proofs::laws::Safety::running_headline, crate::proofs::laws::Fresh::heads_are_newest, crate::proofs::laws::Fresh::lookups_are_fresh, crate::proofs::laws::Fresh::recalls_are_live, crate::proofs::laws::Fresh::refinds_are_live, crate::proofs::laws::Fresh::whole_in_the_list, crate::proofs::laws::Called::ordered_in_time, crate::proofs::laws::Called::keeper_hears_later))]
+#[tactic(auto, using(crate::proofs::laws::Safety::running_headline, crate::proofs::laws::Fresh::heads_are_newest, crate::proofs::laws::Fresh::lookups_are_fresh, crate::proofs::laws::Linear::lookups_are_linear, crate::proofs::laws::Fresh::recalls_are_live, crate::proofs::laws::Fresh::refinds_are_live, crate::proofs::laws::Fresh::whole_in_the_list, crate::proofs::laws::Called::ordered_in_time, crate::proofs::laws::Called::keeper_hears_later))]
 pub fn running_headline()
     ensures run { RunningHeadline }
     ensures held { HeldHaveSlots }
@@ -31,6 +32,7 @@ pub fn running_headline()
     ensures heard { CpuHearsLater }
     ensures ended { EndsOpenSections }
     ensures fresh { LookupsAreFresh }
+    ensures linear { LookupsAreLinear }
     ensures whole { WholeInTheList }
     ensures recalled { RecallsAreLive }
     ensures refound { RefindsAreLive }

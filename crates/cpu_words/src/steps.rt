@@ -29,7 +29,7 @@ pub use list::{store_count, store_next, store_record};
 pub use locals::{count_add, count_down, join_ref, split_back, split_ref};
 pub use notes::{hear, hear_keeper, tell, tell_keeper};
 pub use passive::{load_passive, passive_add, passive_sub};
-pub use publishing::{hide, publish, show, unpublish};
+pub use publishing::{hide, publish, republish, show, unpublish};
 pub use reading::load_local;
 pub use recalls::{recall, recall_head, refind};
 pub use search::{load_compared, load_link, load_searched, seek};

@@ -5,12 +5,12 @@ use Rattle.std.specs.Prelude.{if◌then◌else◌}
 use mathlib.Core.Logic.{dite}
 use native.Mathlib.Decide.{ℕ_discrete}
 use Rattle.atomic_table.specs.Seated.{TableId}
-use Rattle.passive_list.specs.Types.{Settings, CpuView, Entry, Attach, Refusal, LocalFull, NothingFound, ReferenceView, Kind}
+use Rattle.passive_list.specs.Types.{Settings, CpuView, Entry, Refusal, LocalFull, NothingFound, ReferenceView, Kind}
 use Rattle.registry_values.specs.Common.{bias, why_uncounted}
 use Rattle.registry_values.proofs.Answers.{uncounted_alike}
 use Rattle.registry_values.proofs.Fit.{ranges}
 use Rattle.protocol.specs.Common.{greatest_limit}
-use Rattle.protocol.proofs.History.{at_within}
+use Rattle.protocol.proofs.History.{attached_within}
 use Rattle.protocol.proofs.Occupied.{place_cases}
 use Rattle.cpu_words.specs.Common.{number_at, with_number, IsShownCpu, IsPlaceCount, IsMetAlone, one_more, IsNetCount, MayCount, HasCounted, HasSplit, HasCountedDown, HasFoundCollected, HasSplitBack, with_hand}
 use Rattle.cpu_words.specs.declared.view.InHand.TheVariants.{Empty as NoEntry, Taking as TakingEntry, Giving as GivingEntry, Back as BackEntry}
@@ -20,7 +20,7 @@ use Rattle.passive_list.specs.Common.{Memory, no_place, place_at, NetAgree, IsOu
 use Rattle.passive_list.specs.declared.place.Found.{Found}
 use Rattle.passive_list.specs.declared.place.NumberedCount.{NumberedCount}
 use Rattle.passive_list.proofs.Agreeing.{IsFoundAs, found_as, found_none}
-use Rattle.local_count.specs.{net_by, why_not_acquired_local}
+use Rattle.local_count.specs.{net_by, IsLastFound, why_not_acquired_local}
 
 -- the place of a slot says a number's net count, where it is for that number
 pub place_here : (x : CpuView) (l : List NumberedCount) (t n : ℕ) → NetAgree x l → 0 < n → (place_at l t).number ≡ n → IsPlaceCount x t n (place_at l t).count
@@ -137,7 +137,7 @@ counted_room n most none = tells (nat_lt n most) refl none
     tells false test q = absurd (some_not_none LocalFull q)
 
 begun_of : (x : CpuView) (k : Found) → IsFoundAs x k → 0 < k.number
-begun_of x k kept = omega (arith, (at_within x.pass kept.entry.number (Attach kept.entry) kept.attached).0, kept.number)
+begun_of x k kept = omega (arith, (attached_within x.pass kept.entry kept.attached).0, kept.number)
 
 -- what its place says is its net count for that entry, which has its slot
 net_of_found : (z : TableId) (a : Settings) (t : TableId) (x : CpuView) (c w d : ℕ) (k : Found) (ps ns : List NumberedCount) (ms : Memory) (n : ℕ) (kept : IsFoundAs x k)
@@ -251,3 +251,22 @@ come_back x y k w e n v empty joined found cut =
       cpu = cut.2 ∙ ap (λ (q : CpuView). with_hand q NoEntry) found.3 ∙ ap (λ (q : CpuView). with_hand q NoEntry) joined ∙ (λ i. with_hand x (sym empty i));
       is = cut.3 ∙ (λ i. record { entry = one i; collected = Some (id i) });
     }
+
+-- Whether the last found entry is the one with that number, by what is kept of it.
+
+pub is_last : (x : CpuView) (k : Found) (n : ℕ) → IsFoundAs x k → k.number ≡ n → IsLastFound x n
+is_last x k n kept same = (kept.entry, kept.found, sym kept.number ∙ same)
+
+one_found : (e f : Entry) → ◌≡◌ {A = Option Entry} (Some e) (Some f) → e ≡ f
+one_found e f same = cc
+
+none_found : (e : Entry) → ◌≡◌ {A = Option Entry} None (Some e) → ⊥
+none_found e wrong = cc
+
+pub not_last : (x : CpuView) (k : Found) (n : ℕ) → IsFoundAs x k → (k.number ≡ n → ⊥) → IsLastFound x n → ⊥
+not_last x k n kept off last =
+    let one : kept.entry ≡ last.0 = one_found kept.entry last.0 (sym kept.found ∙ last.1) in
+    off (kept.number ∙ (ap (λ (e : Entry). e.number) one ∙ last.2))
+
+pub none_last : (x : CpuView) (n : ℕ) → x.found ≡ None → IsLastFound x n → ⊥
+none_last x n none last = none_found last.0 (sym none ∙ last.1)

@@ -1,14 +1,14 @@
 //! Acquiring and releasing a local reference by a CPU's own count (localcount(9)).
 
-ghost use Rattle.std.specs.Prelude.{◌≡◌, ◌<◌, IfOk, IsTrue, IfErr};
-ghost use Rattle.local_count.specs.{net_by, AnswersAcquireLocal, why_not_acquired_local, HasReleased, HasComeBack};
+ghost use Rattle.std.specs.Prelude.{◌≡◌, ◌≢◌, ◌<◌, IfOk, IsTrue, IfErr, None, false};
+ghost use Rattle.local_count.specs.{net_by, AcquiresEntryLocal, AcquiresSoughtLocal, AnswersAcquireLocal, IsLastFound, why_not_acquired_local, HasReleased, HasComeBack};
 ghost use Rattle.registry_values.specs.Common.{are_fit};
-ghost use Rattle.cpu_words.specs.Common.{AreWordsOf};
+ghost use Rattle.cpu_words.specs.Common.{AreWordsOf, key_with};
 
 use crate::local_ref::LocalRef;
 use cpu_words::{Domain, Words, steps};
-use passive_list::{Cpu, NumberedCount, PlainCpu, PlainRef};
-use registry_values::{BIAS, Refusal, why_uncounted};
+use passive_list::{Cpu, NumberedCount, PlainCpu, PlainRef, find_inside_on};
+use registry_values::{BIAS, Kind, Name, Refusal, why_uncounted};
 use std::marker::PhantomData;
 
 /// The net count for `number` that the place of its slot says, over the bias: none where another number was met there last.
@@ -69,6 +69,67 @@ pub fn acquire_local_on(words: &Words, cpu: &mut PlainCpu) -> Result<PlainRef, R
         slot: found.slot,
         kind: found.kind,
     })
+}
+
+/// Acquires a local reference to the entry with that number, and to no other one: to the last found entry, if it is that one; else by a
+/// lookup of the kind and the name, if that finds it.
+/// Conditions: the words are the CPU's table's; inside.
+/// Refused: `NotFound` if the entry is neither; `LocalFull` if the CPU's own net count for it is `count_limit`. Nothing is acquired then.
+pub fn acquire_entry_local(
+    words: &Words,
+    cpu: &mut PlainCpu,
+    number: u64,
+    kind: Kind,
+    name: Name,
+) -> Result<PlainRef, Refusal>
+    requires words { AreWordsOf words.now cpu.old.words.table cpu.old.words.settings }
+    requires inside { cpu.old.cpu.view.begin ≢ None }
+    ensures acquired { AcquiresEntryLocal number (key_with kind name) cpu.old.cpu cpu.new.cpu result (λ v. v.reference) }
+    ensures table { IfOk result (λ v. v.table ≡ cpu.old.words.table) }
+    ensures slot { IfOk result (λ v. v.reference.entry.slot < cpu.old.words.settings.slots) }
+    ensures words { cpu.new.words ≡ cpu.old.words }
+{
+    if is_last_found(cpu, number) {
+        return acquire_local_on(words, cpu);
+    }
+    acquire_sought(words, cpu, number, kind, name)
+}
+
+/// What `acquire_entry_local` does with an entry that isn't the last found one. Condition: inside.
+#[inline(never)]
+fn acquire_sought(
+    words: &Words,
+    cpu: &mut PlainCpu,
+    number: u64,
+    kind: Kind,
+    name: Name,
+) -> Result<PlainRef, Refusal>
+    requires words { AreWordsOf words.now cpu.old.words.table cpu.old.words.settings }
+    requires inside { cpu.old.cpu.view.begin ≢ None }
+    requires other { IsLastFound cpu.old.cpu.view number → ⊥ }
+    ensures sought { AcquiresSoughtLocal number (key_with kind name) cpu.old.cpu cpu.new.cpu result (λ v. v.reference) }
+    ensures table { IfOk result (λ v. v.table ≡ cpu.old.words.table) }
+    ensures slot { IfOk result (λ v. v.reference.entry.slot < cpu.old.words.settings.slots) }
+    ensures words { cpu.new.words ≡ cpu.old.words }
+{
+    find_inside_on(words, cpu, kind, name);
+    if is_last_found(cpu, number) {
+        return acquire_local_on(words, cpu);
+    }
+    Err(Refusal::NotFound)
+}
+
+/// Whether the CPU's last found entry is the one with that number.
+#[inline(always)]
+fn is_last_found(cpu: &PlainCpu, number: u64) -> bool
+    ensures yes { IsTrue result → IsLastFound cpu.now.cpu.view number }
+    ensures no { result ≡ false → IsLastFound cpu.now.cpu.view number → ⊥ }
+{
+    let found = cpu.found;
+    if found.number == 0 {
+        return false;
+    }
+    found.number == number
 }
 
 /// Why a CPU that names its own table may not acquire a local reference now, as `acquire_local` has it. Condition: the words are its table's.

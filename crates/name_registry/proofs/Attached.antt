@@ -1,22 +1,22 @@
 -- An attach and a detach: what the entry that is given tells, the keeper's live slots, and what the calls leave.
-use Rattle.std.proofs.Common.{◌≡◌, ◌∙◌, ℕ, suc, ◌+◌, ◌≤◌, Bool, true, false, Option, Some, None, List, ◌∷◌, ◌++◌, length, Ok, append_assoc, IsTrue, refl, sym, ap, subst, arith, add-one, leb-true, inl, Result, Err, position}
+use Rattle.std.proofs.Common.{◌≡◌, ◌∙◌, ℕ, suc, ◌+◌, ◌≤◌, Bool, true, false, Option, Some, None, List, ◌++◌, length, Ok, append_assoc, IsTrue, refl, sym, ap, subst, arith, add-one, leb-true, inl, Result, Err, position}
 use Rattle.std.specs.Prelude.{◌≢◌, ◌↔◌, is_some}
 use Rattle.std.specs.List.{zip}
 use Rattle.std.proofs.lemmas.Option.{none-some}
 use Rattle.std.proofs.lemmas.List.Quantifiers.{position-Some}
 use Rattle.std.proofs.lemmas.Slice.Zip.{get_or-zip, length-zip}
 use mathlib.Core.List.{IsPrefix}
-use Rattle.name_registry.specs.Types.{Change, Attach, Entry, Kind, Iface, Driver, Record, Settings, Slot, Vacant, Live, Retired, Publish, Tell, Done, LogItem, ReferenceView, Refusal, Inside, NotFound, Key, KeeperView, KeptSlot}
-use Rattle.registry_values.specs.Common.{is_available, key_of_record, is_iface, is_taken, live_count, slot_at, detach_answer, is_live_as, same_key}
+use Rattle.name_registry.specs.Types.{Change, Attach, Entry, Kind, Iface, Driver, Record, Settings, Slot, Vacant, Live, Retired, Tell, Done, LogItem, ReferenceView, Refusal, Inside, NotFound, Key, KeeperView, KeptSlot}
+use Rattle.registry_values.specs.Common.{has_room, is_available, key_of_record, is_iface, is_taken, live_count, slot_at, detach_answer, is_live_as, same_key}
 use Rattle.registry_values.proofs.Answers.{given_tells}
 use Rattle.registry_values.proofs.Slots.{key_same, live_tells}
 use Rattle.protocol.specs.Common.{keeps_rightly, after_change, kept_at, IsAttached, IsLiveAt}
 use Rattle.protocol.proofs.Cells.{position_fails}
 use Rattle.protocol.proofs.Occupied.{in_within, live_one}
-use Rattle.cpu_words.specs.Common.{IsAttachedKeeping, did, log_item}
+use Rattle.cpu_words.specs.Common.{did}
 use Rattle.cpu_words.proofs.by_keeper.KeeperSteps.{seen_by_keeper}
 use Rattle.passive_list.specs.Common.{OnCpu, OnKeeper, HasHeardOn, cpu_after_tell, has_heard, HasAttached, HasAttachedKeeping, states_of, IsOurKeeper, HasDetached, LogsDetach}
-use Rattle.passive_list.proofs.Attached.{rows_live, live_rows}
+use Rattle.passive_list.proofs.Attached.{keeping_more, rows_live, live_rows}
 use Rattle.name_registry.specs.Common.{given_entry, first_fit, room_of, keeper_after_hear, keeper_after_tell, HasSeenAttach, IsDetachRefusal, IsLookupNow, IsLivePlace, HasDetachedFor, is_inside}
 use Rattle.name_registry.proofs.Noted.{seen_attach, heard_told, met, seen_detach}
 
@@ -36,16 +36,26 @@ pub record MayTake (a : Settings) (m : OnKeeper) (rec : Record) (e : Entry) : Ty
   pub room : length m.view.history + live_count m.slots + 2 ≤ a.change_limit
   pub entry : record { number = suc (length m.view.history); slot = e.slot; rec = rec } ≡ e
 
-pub given_takes : (a : Settings) (k : OnKeeper) (rec : Record) (e : Entry) → given_entry a k rec ≡ Ok e → MayTake a k rec e
-given_takes a k rec e is =
+-- the slot t is vacant and keeps nothing, and the history has room for an entry there
+pub record HasSlot (a : Settings) (m : OnKeeper) (t : ℕ) : Type 0 where
+  pub vacant : slot_at m.slots t ≡ Vacant
+  pub nothing : kept_at m.view.keeps t ≡ None
+  pub room : length m.view.history + live_count m.slots + 2 ≤ a.change_limit
+
+pub fit_has : (a : Settings) (k : OnKeeper) (t : ℕ) → first_fit k ≡ Some t → has_room (room_of a k) ≡ true → HasSlot a k t
+fit_has a k t fit fits =
     let keeps = k.view.keeps in
-    let told = given_tells (is_taken (key_of_record rec) k.slots) (first_fit k) (room_of a k) rec e is in
-    let at = position-Some is_available (zip k.slots keeps) e.slot (Vacant, None) told.place in
+    let at = position-Some is_available (zip k.slots keeps) t (Vacant, None) fit in
     let size = length-zip k.slots keeps in
     let lt = at.0 in
-    let pair = get_or-zip k.slots keeps e.slot (Vacant, None) (omega (arith, lt, size)) (omega (arith, lt, size)) in
-    let parts = available_parts (slot_at k.slots e.slot) (kept_at keeps e.slot) (ap is_available (sym pair) ∙ at.1) in
-    assumption (parts, told.free, leb-true _ _ told.fits, ap (λ (n : ℕ). record { number = n; slot = e.slot; rec = rec }) (sym (add-one (length k.view.history))) ∙ sym told.entry)
+    let pair = get_or-zip k.slots keeps t (Vacant, None) (omega (arith, lt, size)) (omega (arith, lt, size)) in
+    let parts = available_parts (slot_at k.slots t) (kept_at keeps t) (ap is_available (sym pair) ∙ at.1) in
+    record { vacant = parts.0; nothing = parts.1; room = leb-true _ _ fits }
+
+pub given_takes : (a : Settings) (k : OnKeeper) (rec : Record) (e : Entry) → given_entry a k rec ≡ Ok e → MayTake a k rec e
+given_takes a k rec e is =
+    let told = given_tells (is_taken (key_of_record rec) k.slots) (first_fit k) (room_of a k) rec e is in
+    assumption (fit_has a k e.slot told.place told.fits, told.free, ap (λ (n : ℕ). record { number = n; slot = e.slot; rec = rec }) (sym (add-one (length k.view.history))) ∙ sym told.entry)
 
 -- it was given before the keeper heard the CPU x
 pub taken_tells : (a : Settings) (k : OnKeeper) (x : OnCpu) (m : OnKeeper) (rec : Record) (e : Entry) → m ≡ keeper_after_hear k x → given_entry a k rec ≡ Ok e → MayTake a m rec e
@@ -85,15 +95,6 @@ attach_met a x m n e b y heard same seen number after hears log = (
 
 pub attached_told : (a : OnKeeper) (e : Entry) (b : OnKeeper) → HasAttached a e b → HasAttached a e (keeper_after_tell b)
 attached_told a e b has = record { entry = has.entry; slots = has.slots }
-
-pub keeping_more : (t n d : ℕ) (log later : List LogItem) → IsPrefix log later → IsAttachedKeeping t n d log → IsAttachedKeeping t n d later
-keeping_more t n d log later pre is = record {
-  before = is.before;
-  after = is.after ++ pre.0;
-  are = sym pre.1 ∙ (ap (λ (l : List LogItem). l ++ pre.0) is.are ∙ append_assoc is.before (log_item (Publish t) Done ∷ is.after) pre.0);
-  number = is.number;
-  keeps = is.keeps;
-}
 
 pub keeping_told : (a : OnKeeper) (v : ReferenceView) (e : Entry) (b : OnKeeper) → HasAttachedKeeping a v e b → HasAttachedKeeping a v e (keeper_after_tell b)
 keeping_told a v e b has = record {

@@ -11,11 +11,11 @@ use mathlib.Core.Option.{some, some-injective, some-ne-none}
 use native.Mathlib.Decide.{ℕ_discrete}
 use lib.ListN.{get_elem?}
 use Rattle.atomic_table.specs.Seated.{TableId}
-use Rattle.name_registry.specs.Types.{Balance, Entry, Attach, Mark, Settings, Slot, Vacant, Live, Retired, MOST_CPUS, MOST_SLOTS, CpuView, LogItem, KeeperView, KeptSlot, NumberedCount}
+use Rattle.name_registry.specs.Types.{Balance, Entry, Mark, Settings, Slot, Vacant, Live, Retired, MOST_CPUS, MOST_SLOTS, CpuView, LogItem, KeeperView, KeptSlot, NumberedCount}
 use Rattle.registry_values.specs.Common.{Tally, is_retired, less_bias, sum_of, tally_shown, bias, slot_at}
 use Rattle.protocol.specs.Common.{IsIn, greatest_limit, mark_at, total_at}
 use Rattle.registry_values.proofs.Fit.{ranges}
-use Rattle.protocol.proofs.History.{at_within}
+use Rattle.protocol.proofs.History.{attached_within}
 use Rattle.protocol.proofs.Occupied.{attached_in}
 use Rattle.cpu_words.specs.Common.{number_at}
 use Rattle.cpu_words.proofs.by_keeper.KeeperSteps.{seen_by_keeper}
@@ -63,7 +63,7 @@ has a k rows n x t m our is there =
     let g = our.is_shown.g in
     let good = our.is_shown.good in
     let attached = attached_in g.history g.slots t e good.holds.slots (subst (λ (y : List Slot). IsIn e (slot_at y t)) (seen_by_keeper g k good our.is_shown.shown).slots here.1) in
-    let one = (at_within g.history e.number (Attach e) attached.0).0 in
+    let one = (attached_within g.history e attached.0).0 in
     let most = (ranges a our.view.fit).slots in
     let near = total_near g k t e good our.is_shown.shown (none_at_rest k.due t our.view.rest) here.1 in
     subst (λ (y : OnKeeper). Has a y rows t m) is record {

@@ -1,9 +1,11 @@
 -- Destroying: what a turn tells the caller's CPU, what is kept of all turns, and the end of a registry.
+use Rattle.cpu_words.proofs.laws.Freed.{freed_by_keeper, freed_is_gone}
+use Rattle.name_registry.specs.Destroying.{StaysGone}
 use Rattle.std.proofs.Common.{◌≡◌, ◌∙◌, ⊎_elim, ℕ, ◌<◌, ◌&&◌, Bool, true, List, [], ◌∷◌, ◌++◌, length, Some, None, Result, Ok, Err, eq-eqb, refl, sym, ap, subst, append-nil, append_assoc, arith, zero, suc, ◌≤◌, false, inl, IfOk, IfErr}
 use Rattle.std.proofs.lemmas.List.{length-append}
 use Rattle.std.proofs.lemmas.Option.{none-some, same_Some}
 use mathlib.Core.List.{IsPrefix}
-use Rattle.name_registry.specs.Types.{Change, Entry, Refusal, Settings, Slot, Vacant, Live, Retired, Stage, Grace, Passive, Local, Freed, Mark, Hear, KeptSub, Tell, Vacate, Done, Rest, LogItem, Inside, NotRetired}
+use Rattle.name_registry.specs.Types.{Change, Entry, Refusal, Settings, Slot, Vacant, Live, Retired, Stage, Grace, Passive, Local, Freed, Mark, Hear, KeptSub, Tell, Vacate, Done, Rest, LogItem, KeeperView, Keeper, Inside, NotRetired}
 use Rattle.registry_values.specs.Common.{is_retired, is_retired_as, retired_slot, slot_at, IsObstacle, destroy_result_of}
 use Rattle.registry_values.proofs.Slots.{retired_slot_tells}
 use Rattle.protocol.specs.Common.{addition_due_at, is_adding_at, subtraction_due_at, State, count_at, mark_at, total_at}
@@ -14,7 +16,7 @@ use Rattle.cpu_words.proofs.by_keeper.KeeperSteps.{seen_by_keeper}
 use Rattle.cpu_words.proofs.logs.Slots.{not_attached}
 use Rattle.cpu_words.proofs.laws.Freed.{ended_runs}
 use Rattle.passive_list.specs.Common.{OnCpu, OnKeeper, HasOwnLog, HasHeardOn, as_teller, cpu_after_tell, has_heard, HasFreed}
-use Rattle.name_registry.specs.Common.{EndsIn, HasAdvanced, HasEnded, Meets, MeetsGrace, MeetsLocal, MeetsPassive, HasAdvancedFor, hears_cpu, keeper_after_hear, keeper_after_tell, AnswersBy, HasMet, IsNotRetired, IsRetiredIn, IsTurn, MetLocals, MetReference, MetSection, IsGoneIfFreed, Destroys, DestroysOutside, HasDestroyed, LastMeeting, SomeAdvancedFor, TurnsMeeting, IsDestroyRefusal, HasLearned, IsDestroyAnswer, ClosesRun}
+use Rattle.name_registry.specs.Common.{EndsIn, HasAdvanced, HasEnded, Meets, MeetsGrace, MeetsLocal, MeetsPassive, HasAdvancedFor, hears_cpu, keeper_after_hear, keeper_after_tell, AnswersBy, HasMet, IsNotRetired, IsRetiredIn, IsTurn, MetLocals, MetReference, MetSection, IsGoneIfFreed, Destroys, DestroysOutside, HasDestroyed, LastMeeting, SomeAdvancedFor, TurnsMeeting, IsDestroyRefusal, HasLearned, IsDestroyAnswer, ClosesRun, StaysGoneBy}
 use Rattle.name_registry.proofs.Noted.{heard_told_again, met_again, prefix_short, learned, by_meeting_again}
 use Rattle.name_registry.proofs.Worked.{prefix_on}
 use Rattle.name_registry.proofs.Waited.{Learns, learns_none, learns_more}
@@ -237,6 +239,17 @@ met_gone z n x y (Err refusal) is = tt
 
 pub destroyed_gone : (z : Settings) (n turns : ℕ) (x y : OnCpu) (answer : Result ℕ Refusal) → HasDestroyed z n turns x answer y → IfOk answer (λ t. IsFreedFrom t n y.known_log)
 destroyed_gone z n turns x y answer is = subst (λ (r : Result ℕ Refusal). IfOk r (λ t. IsFreedFrom t n y.known_log)) (sym is.told) (met_gone z n is.last.0 y is.met is.last.2)
+
+pub destroyed_forever : (z : Settings) (n turns : ℕ) (x y : OnCpu) (answer : Result ℕ Refusal) → HasDestroyed z n turns x answer y → IfOk answer (λ t. StaysGone z t n y)
+destroyed_forever z n turns x y (Ok t) is = λ s i l ruled at more. freed_is_gone z s i l t n ruled at (freed_more t n y.known_log l.known_log more (destroyed_gone z n turns x y (Ok t) is))
+destroyed_forever z n turns x y (Err f) is = tt
+
+-- the same of whoever has the keeper's log
+pub stays_gone : (z : Settings) (t n : ℕ) (log : List LogItem) → IsFreedFrom t n log → StaysGoneBy z t n log
+stays_gone z t n log is s i l ruled at has = ⊎_elim
+    (λ (heard : IsPrefix log l.known_log). freed_is_gone z s i l t n ruled at (freed_more t n log l.known_log heard is))
+    (λ (own : (k : KeeperView) × (l.view ≡ Keeper k) × IsPrefix log l.log). freed_by_keeper z s i l own.0 t n ruled at own.1 (freed_more t n log l.log own.2 is))
+    has
 
 -- What else changed of the CPU
 

@@ -21,7 +21,7 @@ at_within l i a e = (cpu_at l i a a e).0
 -- Prefixes
 
 -- what goes on from a list and begins it is that list
-prefix_both : {X : Type 0} (a b : List X) → IsPrefix a b → IsPrefix b a → a ≡ b
+pub prefix_both : {X : Type 0} (a b : List X) → IsPrefix a b → IsPrefix b a → a ≡ b
 prefix_both {X} a b first second = by first.0 first.1
   where
     by : (more : List X) → a ++ more ≡ b → a ≡ b

@@ -1,4 +1,5 @@
 pub mod Attached
+pub mod Replaced
 pub mod Audits
 pub mod Destroyed
 pub mod Gathered
@@ -11,3 +12,6 @@ pub mod Counted
 pub mod Passed
 pub mod Waited
 pub mod GivenUp
+pub mod Driver
+pub mod Counting
+pub mod LookedUp

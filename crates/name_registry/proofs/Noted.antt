@@ -3,18 +3,19 @@ use Rattle.std.proofs.Common.{◌≡◌, ◌∙◌, All, List, ◌++◌, inl, in
 use Rattle.std.proofs.lemmas.List.Elements.{All-cons}
 use Rattle.std.proofs.lemmas.List.{length-append}
 use mathlib.Core.List.{IsPrefix}
-use Rattle.name_registry.specs.Types.{Change, Tell, Done, Teller, Attach, Detach, Entry, Room, Record, Refusal, NameTaken, NoSlot, HistoryFull, Inside, NeedsDriver, Settings, Key, ReferenceView}
-use Rattle.registry_values.specs.Common.{entry_in, has_room, next_entry, wait_answer, least_below, or_next, key_of_record, is_iface, is_taken}
+use Rattle.name_registry.specs.Types.{Change, Tell, Done, Teller, Attach, Detach, Replace, Entry, Room, Record, Refusal, NameTaken, NoSlot, HistoryFull, Inside, NeedsDriver, Settings, Key, ReferenceView, SectionsSpent, StillHeld, Waiting, NoMemory, NotFound, NotRetired}
+use Rattle.registry_values.specs.declared.refusal.Refusal.TheVariants.{BadSettings, NothingFound, PassiveFull, WrongCpu, NotHeld, LocalFull, MissingCpu, TooDeep}
+use Rattle.registry_values.specs.Common.{entry_in, has_room, next_entry, wait_answer, least_below, or_next, key_of, key_of_record, is_iface, is_taken}
 use Rattle.registry_values.specs.Answers as answers
 use Rattle.registry_values.proofs.Answers.{attach_tells, given_tells}
-use Rattle.protocol.specs.Common.{after_change, IsAttached}
+use Rattle.protocol.specs.Common.{after_change, brought_by, ended_by, IsAttached}
 use Rattle.protocol.specs.History.{change_at}
 use Rattle.protocol.proofs.History.{at_new, attached_old, at_within, at_prefix}
 use Rattle.cpu_words.specs.Common.{has_heard_from, log_item}
 use Rattle.cpu_words.proofs.shown.Seeing.{attached_prefix}
 use Rattle.passive_list.specs.Common.{OnCpu, HasHeardOn, cpu_after_tell, has_heard, has_told, HeardAndTold, GoesOnBy, OnKeeper}
 use Rattle.passive_list.proofs.Rows.{one_item}
-use Rattle.name_registry.specs.Common.{IsNote, tells_and_hears, tells_twice_and_hears, HasSeenAttach, HasSeenDetach, attach_answer, attach_iface_answer, given_entry, first_fit, room_of, HasAttachedFor, HasAttachedIfaceFor, IsDetachAnswer, HasDetachedFor, MayAttach, IsAttachRefusal, IsPerformRefusal, is_inside, HasLearned}
+use Rattle.name_registry.specs.Common.{IsNote, tells_and_hears, tells_twice_and_hears, HasSeenAttach, HasSeenDetach, HasSeenReplace, AreReplaced, IsReplaceAnswer, IsReplaceRefusalOf, IsReplaceRefusedTo, attach_answer, attach_iface_answer, given_entry, first_fit, room_of, HasAttachedFor, HasAttachedIfaceFor, IsDetachAnswer, HasDetachedFor, MayAttach, IsAttachRefusal, IsPerformRefusal, is_inside, HasLearned}
 
 -- A CPU's own log in a hold of the interlock: notes alone.
 
@@ -69,7 +70,7 @@ pub seen_attach : (h : List Change) (x y : OnCpu) (e : Entry) → IsPrefix x.vie
 seen_attach h x y e before number told log =
     record {
       later = omega (arith, prefix_short x.view.pass h before, number);
-      attached = change_on (after_change h (Attach e)) y.view.pass e.number (Attach e) told (ap (change_at (after_change h (Attach e))) number ∙ at_new h (Attach e));
+      attached = ap brought_by (change_on (after_change h (Attach e)) y.view.pass e.number (Attach e) told (ap (change_at (after_change h (Attach e))) number ∙ at_new h (Attach e)));
       log = log;
     }
 
@@ -80,8 +81,23 @@ seen_detach h x y e before attached told log =
     record {
       end = suc (length h);
       later = omega (arith, prefix_short x.view.pass h before);
-      ends = change_on after y.view.pass (suc (length h)) (Detach e.number) told (at_new h (Detach e.number));
+      ends = ap ended_by (change_on after y.view.pass (suc (length h)) (Detach e.number) told (at_new h (Detach e.number)));
       attached = attached_prefix after y.view.pass e told (attached_old h (Detach e.number) e attached);
+      log = log;
+    }
+
+pub seen_replace : (h : List Change) (x y : OnCpu) (f e : Entry) (r : ℕ) → IsPrefix x.view.pass h → IsAttached h f → e.number ≡ suc (length h) → key_of e ≡ key_of f
+    → IsPrefix (after_change h (Replace f.number r e)) y.view.pass → y.log ≡ x.log ++ tells_and_hears x → HasSeenReplace x y f e
+seen_replace h x y f e r before attached number alike told log =
+    let c : Change = Replace f.number r e in
+    let after = after_change h c in
+    let at : change_at y.view.pass e.number ≡ Some c = change_on after y.view.pass e.number c told (ap (change_at after) number ∙ at_new h c) in
+    record {
+      later = omega (arith, prefix_short x.view.pass h before, number);
+      ends = ap ended_by at;
+      attached = ap brought_by at;
+      before = attached_prefix after y.view.pass f told (attached_old h c f attached);
+      alike = alike;
       log = log;
     }
 
@@ -173,6 +189,34 @@ pub detach_owned : (k b : OnKeeper) (x y : OnCpu) (key : Key) (r : Result Entry 
     → IfOk r (λ e. (e.rec.kind ≡ key.kind) × (e.rec.name ≡ key.name) × HasLearned x y × HasSeenDetach x y e)
 detach_owned k b x y key (Ok e) is has = (ap (λ (q : Key). q.kind) is.1.1, ap (λ (q : Key). q.name) is.1.1, learned b.view.history x y has.cpu (by_meeting x y has.own.log), has.own)
 detach_owned k b x y key (Err f) is has = tt
+
+-- Replacing
+
+pub replace_owned : (z : Settings) (k : OnKeeper) (h : List Change) (x y : OnCpu) (unfit : Bool) (key : Key) (value : ℕ) (p : Entry × Entry) → IsReplaceAnswer z k x unfit key value (Ok p)
+    → HasHeardOn h x y → HasSeenReplace x y p.0 p.1 → AreReplaced key value p × HasLearned x y × HasSeenReplace x y p.0 p.1
+replace_owned z k h x y unfit key value p is has own =
+    ((ap (λ (q : Key). q.kind) is.1.1, ap (λ (q : Key). q.name) is.1.1, ap (λ (e : Entry). e.rec) is.4), learned h x y has (by_meeting x y own.log), own)
+
+pub replace_refused : (z : Settings) (k : OnKeeper) (x : OnCpu) (unfit : Bool) (key : Key) (f : Refusal) → IsReplaceRefusalOf z k x unfit key f → IsReplaceRefusedTo (is_inside x) unfit f
+replace_refused z k x unfit key Inside is = is
+replace_refused z k x unfit key NeedsDriver is = is
+replace_refused z k x unfit key NotFound is = is.0
+replace_refused z k x unfit key NoSlot is = is.0
+replace_refused z k x unfit key HistoryFull is = is.0
+replace_refused z k x unfit key NoMemory is = absurd is
+replace_refused z k x unfit key BadSettings is = absurd is
+replace_refused z k x unfit key NameTaken is = absurd is
+replace_refused z k x unfit key SectionsSpent is = absurd is
+replace_refused z k x unfit key NothingFound is = absurd is
+replace_refused z k x unfit key PassiveFull is = absurd is
+replace_refused z k x unfit key WrongCpu is = absurd is
+replace_refused z k x unfit key NotHeld is = absurd is
+replace_refused z k x unfit key LocalFull is = absurd is
+replace_refused z k x unfit key NotRetired is = absurd is
+replace_refused z k x unfit key MissingCpu is = absurd is
+replace_refused z k x unfit key (StillHeld s) is = absurd is
+replace_refused z k x unfit key (Waiting c) is = absurd is
+replace_refused z k x unfit key TooDeep is = absurd is
 
 -- Performing
 

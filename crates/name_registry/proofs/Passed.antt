@@ -1,5 +1,6 @@
 -- Looks for no entry, CPU by CPU, and the end of a perform: all CPUs have passed for what was retired.
 use Rattle.std.proofs.Common.{◌≡◌, ℕ, zero, suc, ◌+◌, ◌<◌, List, ◌++◌, length, Bool, true, false, Option, Some, None, IfSome, Result, Err, get_or, set, refl, sym, ap, ◌∙◌, subst, arith, ◌⊎◌, inl, inr, ⊎_elim, ◌≤◌, [], ◌∷◌, eq-eqb, append_assoc}
+use Rattle.std.specs.Option.{unwrap_or}
 use Rattle.std.proofs.lemmas.List.{get_or-set_same, get_or-set_other, append-nil}
 use Rattle.std.proofs.lemmas.Bool.{cases_eq, cases_lt}
 use Rattle.std.proofs.lemmas.Option.{same_Some}
@@ -14,7 +15,7 @@ use Rattle.cpu_words.proofs.logs.Marks.{StandsIn, no_open, snapped_on, stands_mo
 use Rattle.cpu_words.proofs.logs.Slots.{kept_entry, kept_standing, not_attached, one_detached}
 use Rattle.passive_list.specs.Common.{OnCpu, OnKeeper, HasOwnLog, HasHeardOn, cpu_after_tell, has_heard, HasRows, OnPlainKeeper, states_of}
 use Rattle.passive_list.proofs.Rows.{few_slots, keeper_is, retired_in}
-use Rattle.name_registry.specs.Common.{keeper_after_hear, keeper_after_tell, GlancesBelow, GlancesOnce, HasPerformed, Hold, Looking, LooksOnce, PerformsOutside, SnapshotsBelow, is_seen, looking, word_of, MeetsGrace, PassedBelow, HasPassedAll, HasPassedFor, PassesBelow, PassesIf, PassesNumber}
+use Rattle.name_registry.specs.Common.{keeper_after_hear, keeper_after_tell, GlancesBelow, GlancesOnce, HasPerformed, Hold, Looking, LooksOnce, PerformsOutside, SnapshotsBelow, is_seen, looking, word_of, MeetsGrace, PassedBelow, HasPassedAll, HasPassedFor, PassesBelow, PassesEntry, PassesIf}
 use Rattle.name_registry.proofs.Noted.{prefix_short, heard_told, met, least_small, heard_told_again, met_again}
 
 -- Looks for no entry, CPU by CPU: what a loop over the CPUs has done is so of rows that agree on them, and one CPU more follows.
@@ -154,13 +155,12 @@ onward_if : (z : Settings) (a : OnKeeper) (t : ℕ) (still : Bool) (b : OnKeeper
 onward_if z a t true b has = onward_for z a t b has
 onward_if z a t false b is = onward_none a b is
 
-onward_number : (z : Settings) (a : OnKeeper) (t : ℕ) (number : Option ℕ) (b : OnKeeper) → PassesNumber z a t number b → Onward a b
-onward_number z a t None b is = onward_none a b is
-onward_number z a t (Some n) b is = onward_if z a t (is_retired_as n (slot_at a.slots t)) b is
+onward_entry : (z : Settings) (a : OnKeeper) (t n : ℕ) (b : OnKeeper) → PassesEntry z a t n b → Onward a b
+onward_entry z a t n b is = onward_if z a t (is_retired_as n (slot_at a.slots t)) b is
 
-pub onward_below : (z : Settings) (numbers : List (Option ℕ)) (n : ℕ) (a b : OnKeeper) → PassesBelow z numbers n a b → Onward a b
+pub onward_below : (z : Settings) (numbers : List ℕ) (n : ℕ) (a b : OnKeeper) → PassesBelow z numbers n a b → Onward a b
 onward_below z numbers zero a b is = onward_none a b is
-onward_below z numbers (suc n) a b is = onward_more a is.0 b (onward_below z numbers n a is.0 is.1) (onward_number z is.0 n (get_or numbers n None) b is.2)
+onward_below z numbers (suc n) a b is = onward_more a is.0 b (onward_below z numbers n a is.0 is.1) (onward_entry z is.0 n (word_of numbers n) b is.2)
 
 -- an entry that is retired still is looked at for all CPUs
 record PassedAt (z : Settings) (a : OnKeeper) (t : ℕ) (b : OnKeeper) : Type 0 where
@@ -170,21 +170,21 @@ record PassedAt (z : Settings) (a : OnKeeper) (t : ℕ) (b : OnKeeper) : Type 0 
   passes : HasPassedFor z before t after
   last : Onward after b
 
-still_there : (z : Settings) (a : OnKeeper) (t n : ℕ) (b : OnKeeper) (e : Entry) → slot_at a.slots t ≡ Retired e → e.number ≡ n → PassesNumber z a t (Some n) b → HasPassedFor z a t b
+still_there : (z : Settings) (a : OnKeeper) (t n : ℕ) (b : OnKeeper) (e : Entry) → slot_at a.slots t ≡ Retired e → e.number ≡ n → PassesEntry z a t n b → HasPassedFor z a t b
 still_there z a t n b e at same is =
     subst (λ (s : Bool). PassesIf s z a t b) (ap (is_retired_as n) at ∙ eq-eqb e.number n same) is
 
-passed_at : (z : Settings) (numbers : List (Option ℕ)) (n : ℕ) (a b : OnKeeper) → PassesBelow z numbers n a b → (t k : ℕ) (e : Entry) → t < n → get_or numbers t None ≡ Some k
+passed_at : (z : Settings) (numbers : List ℕ) (n : ℕ) (a b : OnKeeper) → PassesBelow z numbers n a b → (t k : ℕ) (e : Entry) → t < n → word_of numbers t ≡ k
     → slot_at a.slots t ≡ Retired e → e.number ≡ k → PassedAt z a t b
 passed_at z numbers zero a b is t k e lt number at same = absurd (omega (arith, lt))
 passed_at z numbers (suc n) a b is t k e lt number at same = ⊎_elim
     (λ (below : t < n).
     let p = passed_at z numbers n a is.0 is.1 t k e below number at same in
-    record { before = p.before; after = p.after; first = p.first; passes = p.passes; last = onward_more p.after is.0 b p.last (onward_number z is.0 n (get_or numbers n None) b is.2) })
+    record { before = p.before; after = p.after; first = p.first; passes = p.passes; last = onward_more p.after is.0 b p.last (onward_entry z is.0 n (word_of numbers n) b is.2) })
     (λ (ge : n ≤ t).
     let here : n ≡ t = omega (arith, lt, ge) in
     let first = onward_below z numbers n a is.0 is.1 in
-    let its : PassesNumber z is.0 t (Some k) b = subst (λ (o : Option ℕ). PassesNumber z is.0 t o b) number (subst (λ (u : ℕ). PassesNumber z is.0 u (get_or numbers u None) b) here is.2) in
+    let its : PassesEntry z is.0 t k b = subst (λ (o : ℕ). PassesEntry z is.0 t o b) number (subst (λ (u : ℕ). PassesEntry z is.0 u (word_of numbers u) b) here is.2) in
     record { before = is.0; after = b; first = first; passes = still_there z is.0 t k b e (ap (λ (xs : List Slot). slot_at xs t) first.slots ∙ at) same its; last = onward_none b b refl })
     (cases_lt t n)
 
@@ -202,31 +202,30 @@ not_retired n Vacant none = refl
 not_retired n (Live e) none = refl
 not_retired n (Retired e) none = let q : ◌≡◌ {A = Option ℕ} (Some e.number) None = none in cc
 
-pub passes_past : (z : Settings) (numbers : List (Option ℕ)) (s : ℕ) (a b : OnKeeper) → PassesBelow z numbers s a b → ((t : ℕ) → s ≤ t → retired_number (slot_at a.slots t) ≡ None)
+pub passes_past : (z : Settings) (numbers : List ℕ) (s : ℕ) (a b : OnKeeper) → PassesBelow z numbers s a b → ((t : ℕ) → s ≤ t → retired_number (slot_at a.slots t) ≡ None)
     → (n : ℕ) → s ≤ n → PassesBelow z numbers n a b
 passes_past z numbers s a b had none zero le = let same : s ≡ 0 = omega (arith, le) in subst (λ (m : ℕ). PassesBelow z numbers m a b) same had
 passes_past z numbers s a b had none (suc n) le = ⊎_elim
     (λ (high : n < s). let same : s ≡ suc n = omega (arith, le, high) in subst (λ (m : ℕ). PassesBelow z numbers m a b) same had)
-    (λ (low : s ≤ n). (b, passes_past z numbers s a b had none n low, by_number n low (get_or numbers n None)))
+    (λ (low : s ≤ n). (b, passes_past z numbers s a b had none n low, by_number n low (word_of numbers n)))
     (cases_lt n s)
   where
-    by_number : (t : ℕ) → s ≤ t → (o : Option ℕ) → PassesNumber z b t o b
-    by_number t low None = refl
-    by_number t low (Some k) =
+    by_number : (t : ℕ) → s ≤ t → (k : ℕ) → PassesEntry z b t k b
+    by_number t low k =
         let same : slot_at b.slots t ≡ slot_at a.slots t = ap (λ (xs : List Slot). slot_at xs t) (onward_below z numbers s a b had).slots in
         subst (λ (is : Bool). PassesIf is z b t b) (sym (ap (is_retired_as k) same ∙ not_retired k (slot_at a.slots t) (none t low))) refl
 
 -- After the wait
 
 -- The keeper h has heard the caller, who knew then what it had done `before` and since; it had waited since for all CPUs. After its passes it is `end`.
-pub record Passing (z : Settings) (numbers : List (Option ℕ)) (h end : OnKeeper) (before since gap : List LogItem) : Type 0 where
+pub record Passing (z : Settings) (numbers : List ℕ) (h end : OnKeeper) (before since gap : List LogItem) : Type 0 where
   pub passes : PassesBelow z numbers MOST_SLOTS h end
   pub own : HasOwnLog z end
   pub log : h.log ≡ (before ++ since) ++ gap
   pub waited : HasWaited since z.cpus
 
 -- no look met a section of a snapshot that was taken before
-met_none : (z : Settings) (numbers : List (Option ℕ)) (h end : OnKeeper) (before since gap more : List LogItem) (t j : ℕ) → Passing z numbers h end before since gap → (p : PassedAt z h t end)
+met_none : (z : Settings) (numbers : List ℕ) (h end : OnKeeper) (before since gap more : List LogItem) (t j : ℕ) → Passing z numbers h end before since gap → (p : PassedAt z h t end)
     → ((c : ℕ) → c < z.cpus → (w : ℕ) × IsSnapped t c w before)
     → end.log ≡ before ++ more → KeepsSlot t more → MeetsGrace p.before t j p.after → ⊥
 met_none z numbers h end before since gap more t j on p snapped all keeps meets =
@@ -251,8 +250,8 @@ met_none z numbers h end before since gap more t j on p snapped all keeps meets 
     stands_past d gap (first ++ (looks ++ last)) (stands_past d first (looks ++ last) (stands_more d looks last (record { before = sees.log.0; after = []; are = refl }))) in
     no_open t j old.0 w end.log before since rest on.own.grow whole old.1 (on.waited j low) there (same_Some w old.0 (sym now ∙ by_log)) sees.odd
 
-by_slot : (z : Settings) (numbers : List (Option ℕ)) (h end : OnKeeper) (before since gap more : List LogItem) (t n c : ℕ) (x : Slot) → slot_at end.slots t ≡ x
-    → Passing z numbers h end before since gap → c < z.cpus → get_or numbers t None ≡ Some n
+by_slot : (z : Settings) (numbers : List ℕ) (h end : OnKeeper) (before since gap more : List LogItem) (t n c : ℕ) (x : Slot) → slot_at end.slots t ≡ x
+    → Passing z numbers h end before since gap → c < z.cpus → word_of numbers t ≡ n
     → ((j : ℕ) → j < z.cpus → (w : ℕ) × IsSnapped t j w before) → IsDetachedFrom t n end.log → end.log ≡ before ++ more → KeepsSlot t more → HasPassedOn t c end.log
 by_slot z numbers h end before since gap more t n c Vacant at on low number snapped gone all keeps = on.own.slots.vacant t n c at gone low
 by_slot z numbers h end before since gap more t n c (Live e) at on low number snapped gone all keeps = absurd (not_attached t n e.number end.log gone (on.own.slots.live t e at))
@@ -266,8 +265,8 @@ by_slot z numbers h end before since gap more t n c (Retired e) at on low number
     p.passes.met
 
 -- so the entry that had been detached by then has passed, unless its slot was reused
-pub passed_end : (z : Settings) (numbers : List (Option ℕ)) (h end : OnKeeper) (before since gap more : List LogItem) (t n c : ℕ) → Passing z numbers h end before since gap → c < z.cpus
-    → IsDetachedFrom t n before → get_or numbers t None ≡ Some n
+pub passed_end : (z : Settings) (numbers : List ℕ) (h end : OnKeeper) (before since gap more : List LogItem) (t n c : ℕ) → Passing z numbers h end before since gap → c < z.cpus
+    → IsDetachedFrom t n before → word_of numbers t ≡ n
     → ((j : ℕ) → j < z.cpus → (w : ℕ) × IsSnapped t j w before) → end.log ≡ before ++ more → KeepsSlot t more → HasPassedOn t c end.log
 passed_end z numbers h end before since gap more t n c on low gone number snapped all keeps =
     by_slot z numbers h end before since gap more t n c (slot_at end.slots t) refl on low number snapped (ap (standing t) all ∙ (kept_standing t before more keeps ∙ gone)) all keeps
@@ -275,24 +274,24 @@ passed_end z numbers h end before since gap more t n c on low gone number snappe
 -- As the perform began
 
 -- an entry that was detached by then had passed on all CPUs, or its number was taken, and it has a snapshot of each CPU
-abbrev pub IsReady : ℕ → List (Option ℕ) → List LogItem → ℕ → ℕ → Type 0
-IsReady cpus numbers before t n = ((c : ℕ) → c < cpus → HasPassedOn t c before) ⊎ ((get_or numbers t None ≡ Some n) × ((j : ℕ) → j < cpus → (w : ℕ) × IsSnapped t j w before))
+abbrev pub IsReady : ℕ → List ℕ → List LogItem → ℕ → ℕ → Type 0
+IsReady cpus numbers before t n = ((c : ℕ) → c < cpus → HasPassedOn t c before) ⊎ ((word_of numbers t ≡ n) × ((j : ℕ) → j < cpus → (w : ℕ) × IsSnapped t j w before))
 
-ready_by : (z : Settings) (a : OnKeeper) (numbers : List (Option ℕ)) (t n : ℕ) (x : Slot) → slot_at a.slots t ≡ x → HasOwnLog z a
-    → ((u : ℕ) → u < MOST_SLOTS → get_or numbers u None ≡ retired_number (slot_at a.slots u)) → IsDetachedFrom t n a.log → IsReady z.cpus numbers a.log t n
+ready_by : (z : Settings) (a : OnKeeper) (numbers : List ℕ) (t n : ℕ) (x : Slot) → slot_at a.slots t ≡ x → HasOwnLog z a
+    → ((u : ℕ) → u < MOST_SLOTS → word_of numbers u ≡ unwrap_or (retired_number (slot_at a.slots u)) 0) → IsDetachedFrom t n a.log → IsReady z.cpus numbers a.log t n
 ready_by z a numbers t n Vacant at own are gone = inl (λ c low. own.slots.vacant t n c at gone low)
 ready_by z a numbers t n (Live e) at own are gone = absurd (not_attached t n e.number a.log gone (own.slots.live t e at))
 ready_by z a numbers t n (Retired e) at own are gone =
     let lt : t < MOST_SLOTS = omega (arith, in_within a.slots t e (inr at), few_slots z a own) in
-    inr (are t lt ∙ (ap retired_number at ∙ ap (λ (k : ℕ). Some k) (one_detached t e.number n a.log (own.slots.retired t e at) gone)), λ j low. own.snapped t j e at low)
+    inr (are t lt ∙ (ap (λ (s : Slot). unwrap_or (retired_number s) 0) at ∙ one_detached t e.number n a.log (own.slots.retired t e at) gone), λ j low. own.snapped t j e at low)
 
-pub ready : (z : Settings) (a : OnKeeper) (numbers : List (Option ℕ)) → HasOwnLog z a → ((u : ℕ) → u < MOST_SLOTS → get_or numbers u None ≡ retired_number (slot_at a.slots u)) → (t n : ℕ)
+pub ready : (z : Settings) (a : OnKeeper) (numbers : List ℕ) → HasOwnLog z a → ((u : ℕ) → u < MOST_SLOTS → word_of numbers u ≡ unwrap_or (retired_number (slot_at a.slots u)) 0) → (t n : ℕ)
     → IsDetachedFrom t n a.log → IsReady z.cpus numbers a.log t n
 ready z a numbers own are t n gone = ready_by z a numbers t n (slot_at a.slots t) refl own are gone
 
 -- The hold, from what its parts say
 
-pub made_passes : (z : Settings) (numbers : List (Option ℕ)) (a h end k b : OnKeeper) (x same after y : OnCpu) → IsPrefix x.known_log a.log → h ≡ keeper_after_hear a x → same ≡ cpu_after_tell x
+pub made_passes : (z : Settings) (numbers : List ℕ) (a h end k b : OnKeeper) (x same after y : OnCpu) → IsPrefix x.known_log a.log → h ≡ keeper_after_hear a x → same ≡ cpu_after_tell x
     → PassesBelow z numbers MOST_SLOTS h end → HasOwnLog z end
     → k ≡ keeper_after_hear end same → after ≡ cpu_after_tell same → b ≡ keeper_after_tell k → HasHeardOn k.view.history after y → IsPrefix b.log y.known_log
     → y.log ≡ after.log ++ has_heard after None → HasPassedAll z a x numbers b y

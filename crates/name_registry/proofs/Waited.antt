@@ -1,5 +1,6 @@
 -- What the caller's CPU knows once a perform is done: the keeper saw each CPU out of a section, after it had heard the caller, and what had been detached by then has passed.
-use Rattle.std.proofs.Common.{◌≡◌, ◌⊎◌, inl, inr, ⊎_elim, ℕ, zero, suc, ◌<◌, ◌≤◌, Bool, true, false, not, ◌==◌, List, [], ◌∷◌, ◌++◌, length, get_or, Option, Some, None, Result, IfOk, refl, sym, ap, ◌∙◌, subst, append_assoc, arith}
+use Rattle.cpu_words.proofs.laws.Called.{ends_open_sections}
+use Rattle.std.proofs.Common.{◌≡◌, ◌⊎◌, inl, inr, ⊎_elim, ℕ, zero, suc, ◌<◌, ◌≤◌, Bool, true, false, not, ◌==◌, List, [], ◌∷◌, ◌++◌, length, get_or, Option, Some, None, Result, Ok, Err, IfOk, refl, sym, ap, ◌∙◌, subst, append_assoc, arith}
 use Rattle.std.proofs.lemmas.Bool.{or_cases, not-true, false≢true, eqb-true, eqb-false, cases_lt, not-false}
 use Rattle.std.proofs.lemmas.List.{append-nil}
 use mathlib.Core.List.{IsPrefix}
@@ -12,7 +13,7 @@ use Rattle.cpu_words.specs.Common.{changes_in, has_taken, has_found, has_heard_f
 use Rattle.cpu_words.proofs.logs.Marks.{StandsIn, passed_on, snapped_on, stands_more, stands_past}
 use Rattle.cpu_words.proofs.logs.Slots.{changes_last, kept_entry, kept_parts, standing_last}
 use Rattle.passive_list.specs.Common.{OnCpu, as_teller, cpu_after_tell, OnKeeper, GoesOnBy}
-use Rattle.name_registry.specs.Common.{HasLearned, IsNote, hears_cpu, keeper_after_hear, Finishes, GlancesBelow, GlancesOnce, HasPerformed, HasSeenAllOut, Hold, Looking, SnapshotsBelow, SomeBegan, SomeGlanced, SomePassed, TurnsWaiting, is_seen, none_seen, word_of}
+use Rattle.name_registry.specs.Common.{HasLearned, IsNote, hears_cpu, keeper_after_hear, Finishes, GlancesBelow, GlancesOnce, HasPerformed, HasSeenAllOut, Hold, Looking, SnapshotsBelow, SomeBegan, SomeGlanced, SomePassed, TurnsWaiting, is_seen, none_seen, word_of, HaveAllEnded}
 use Rattle.name_registry.proofs.Noted.{learned, by_meeting, by_meeting_again}
 use Rattle.name_registry.proofs.Passed.{IsReady, Passing, onward_below, passed_end, ready}
 use Rattle.name_registry.proofs.Worked.{prefix_on}
@@ -105,7 +106,7 @@ glanced words seen after (suc n) k l is =
 
 -- so far: the keeper had done `before` as it heard the caller, and what was detached by then had passed or was retired, with these numbers; since then it took the words of all CPUs, and saw out of
 -- their sections those that are seen
-pub record IsSoFar (cpus : ℕ) (x : OnCpu) (words : List ℕ) (numbers : List (Option ℕ)) (seen : List Bool) (m : OnCpu) (before since : List LogItem) : Type 0 where
+pub record IsSoFar (cpus : ℕ) (x : OnCpu) (words : List ℕ) (numbers : List ℕ) (seen : List Bool) (m : OnCpu) (before since : List LogItem) : Type 0 where
   pub are : m.known_log ≡ before ++ since
   pub heard : HasHeardFrom None (as_teller x) before
   pub known : IsPrefix x.known_log before
@@ -114,11 +115,11 @@ pub record IsSoFar (cpus : ℕ) (x : OnCpu) (words : List ℕ) (numbers : List (
   pub taken : (c : ℕ) → c < cpus → StandsIn (has_taken c (word_of words c)) since
   pub out : (c : ℕ) → c < cpus → is_seen seen c ≡ true → IsSeenOut c since
 
-abbrev pub SoFar : ℕ → OnCpu → List ℕ → List (Option ℕ) → List Bool → OnCpu → Type 0
+abbrev pub SoFar : ℕ → OnCpu → List ℕ → List ℕ → List Bool → OnCpu → Type 0
 SoFar cpus x words numbers seen m = (before : List LogItem) × (since : List LogItem) × IsSoFar cpus x words numbers seen m before since
 
 -- it stays so of whoever knows more
-pub so_far_on : (cpus : ℕ) (x : OnCpu) (words : List ℕ) (numbers : List (Option ℕ)) (seen : List Bool) (m y : OnCpu) → IsPrefix m.known_log y.known_log → SoFar cpus x words numbers seen m
+pub so_far_on : (cpus : ℕ) (x : OnCpu) (words : List ℕ) (numbers : List ℕ) (seen : List Bool) (m y : OnCpu) → IsPrefix m.known_log y.known_log → SoFar cpus x words numbers seen m
     → SoFar cpus x words numbers seen y
 so_far_on cpus x words numbers seen m y more had = (
   had.0,
@@ -129,16 +130,6 @@ so_far_on cpus x words numbers seen m y more had = (
     λ (c : ℕ) (lt : c < cpus) (now : is_seen seen c ≡ true). seen_more c had.1 more.0 (had.2.out c lt now),
   ),
 )
-
--- and of other numbers, where each entry that was retired has its own among them
-pub so_far_by : (cpus : ℕ) (x : OnCpu) (words : List ℕ) (numbers others : List (Option ℕ)) (seen : List Bool) (m : OnCpu) → ((t n : ℕ) → get_or numbers t None ≡ Some n → get_or others t None ≡ Some n)
-    → SoFar cpus x words numbers seen m → SoFar cpus x words others seen m
-so_far_by cpus x words numbers others seen m same had =
-    let ready : (t n : ℕ) → IsDetachedFrom t n had.0 → IsReady cpus others had.0 t n = λ t n gone. ⊎_elim
-    (λ (then : (c : ℕ) → c < cpus → HasPassedOn t c had.0). inl then)
-    (λ (retired : (get_or numbers t None ≡ Some n) × ((j : ℕ) → j < cpus → (w : ℕ) × IsSnapped t j w had.0)). inr (same t n retired.0, retired.1))
-    (had.2.ready t n gone) in
-    (had.0, had.1, assumption ready)
 
 -- a hold's end: the log of the keeper as it had heard the CPU, and what came to be known beyond it
 record After (log more : List LogItem) (y : OnCpu) : Type 0 where
@@ -158,18 +149,18 @@ after_hold looks a x b y hold more are =
 heard_changes : (log : List LogItem) (h : Option Teller) → changes_in (log ++ heard_from None h) ≡ changes_in log
 heard_changes log h = changes_last log (has_heard_from None h)
 
-heard_ready : (cpus : ℕ) (numbers : List (Option ℕ)) (log : List LogItem) (h : Option Teller) → ((t n : ℕ) → IsDetachedFrom t n log → IsReady cpus numbers log t n) → (t n : ℕ)
+heard_ready : (cpus : ℕ) (numbers : List ℕ) (log : List LogItem) (h : Option Teller) → ((t n : ℕ) → IsDetachedFrom t n log → IsReady cpus numbers log t n) → (t n : ℕ)
     → IsDetachedFrom t n (log ++ heard_from None h) → IsReady cpus numbers (log ++ heard_from None h) t n
 heard_ready cpus numbers log h are t n gone = ⊎_elim
     (λ (passed : (c : ℕ) → c < cpus → HasPassedOn t c log). inl (λ c lt. passed_on t c log (heard_from None h) (refl, tt) (passed c lt)))
-    (λ (retired : (get_or numbers t None ≡ Some n) × ((j : ℕ) → j < cpus → (w : ℕ) × IsSnapped t j w log)). inr
+    (λ (retired : (word_of numbers t ≡ n) × ((j : ℕ) → j < cpus → (w : ℕ) × IsSnapped t j w log)). inr
     (retired.0, λ j lt. let w = retired.1 j lt in (w.0, snapped_on t j w.0 log (heard_from None h) (refl, tt) w.1)))
     (are t n (sym (standing_last t log (has_heard_from None h)) ∙ gone))
 
 none_is_seen : (c : ℕ) → is_seen none_seen c ≡ true → ⊥
 none_is_seen c is = false≢true (sym (get_or_all {X = Bool} MOST_CPUS false c) ∙ is)
 
-pub so_far_begun : (z : Settings) (x : OnCpu) (words : List ℕ) (numbers : List (Option ℕ)) (y : OnCpu) → SomeBegan z x words numbers y → SoFar z.cpus x words numbers none_seen y
+pub so_far_begun : (z : Settings) (x : OnCpu) (words : List ℕ) (numbers : List ℕ) (y : OnCpu) → SomeBegan z x words numbers y → SoFar z.cpus x words numbers none_seen y
 so_far_begun z x words numbers y is =
     let hold = is.2.hold in
     let p = snapped words z.cpus _ hold.end hold.made in
@@ -188,7 +179,7 @@ so_far_begun z x words numbers y is =
       },
     )
 
-pub so_far_turn : (z : Settings) (x : OnCpu) (words : List ℕ) (numbers : List (Option ℕ)) (seen : List Bool) (m : OnCpu) (told : Option ℕ) (after : List Bool) (y : OnCpu)
+pub so_far_turn : (z : Settings) (x : OnCpu) (words : List ℕ) (numbers : List ℕ) (seen : List Bool) (m : OnCpu) (told : Option ℕ) (after : List Bool) (y : OnCpu)
     → SoFar z.cpus x words numbers seen m → SomeGlanced z words m seen told after y → SoFar z.cpus x words numbers after y
 so_far_turn z x words numbers seen m told after y had is =
     let hold = is.2.hold in
@@ -208,13 +199,13 @@ so_far_turn z x words numbers seen m told after y had is =
     (p.found c lt now) in
     (had.0, had.1 ++ new, assumption (are, λ (c : ℕ) (lt : c < z.cpus). stands_more _ had.1 new (had.2.taken c lt), out))
 
-so_far_turns : (z : Settings) (x : OnCpu) (words : List ℕ) (numbers : List (Option ℕ)) (n : ℕ) (m : OnCpu) (seen : List Bool) (y : OnCpu) (after : List Bool) → SoFar z.cpus x words numbers seen m
+so_far_turns : (z : Settings) (x : OnCpu) (words : List ℕ) (numbers : List ℕ) (n : ℕ) (m : OnCpu) (seen : List Bool) (y : OnCpu) (after : List Bool) → SoFar z.cpus x words numbers seen m
     → TurnsWaiting (SomeGlanced z words) n m seen y after → SoFar z.cpus x words numbers after y
 so_far_turns z x words numbers zero m seen y after had is = subst (λ (p : OnCpu × List Bool). SoFar z.cpus x words numbers p.1 p.0) (λ k. (sym is.0 k, sym is.1 k)) had
 so_far_turns z x words numbers (suc n) m seen y after had is = so_far_turn z x words numbers is.1 is.0 (Some is.2) after y (so_far_turns z x words numbers n m seen is.0 is.1 had is.3) is.4
 
 -- where no CPU was told, all were seen out
-pub all_seen : (z : Settings) (x : OnCpu) (words : List ℕ) (numbers : List (Option ℕ)) (m : OnCpu) (seen : List Bool) (told : Option ℕ) (after : List Bool) (y : OnCpu)
+pub all_seen : (z : Settings) (x : OnCpu) (words : List ℕ) (numbers : List ℕ) (m : OnCpu) (seen : List Bool) (told : Option ℕ) (after : List Bool) (y : OnCpu)
     → (had : SoFar z.cpus x words numbers after y) → SomeGlanced z words m seen told after y → told ≡ None → HasWaited had.1 z.cpus
 all_seen z x words numbers m seen told after y had is none = λ c lt. had.2.out c lt (not-false (is_seen after c) (least_none (λ d. not (is_seen after d)) z.cpus (sym is.2.least ∙ none) c lt))
 
@@ -228,7 +219,7 @@ waited_on : (since more : List LogItem) (cpus : ℕ) → HasWaited since cpus �
 waited_on since more cpus waited c lt = seen_more c since more (waited c lt)
 
 -- once all were seen out, the passes are made, and the CPU is told what the keeper did
-pub passed_out : (z : Settings) (x : OnCpu) (words : List ℕ) (numbers : List (Option ℕ)) (seen : List Bool) (m : OnCpu) (y : OnCpu) → (had : SoFar z.cpus x words numbers seen m)
+pub passed_out : (z : Settings) (x : OnCpu) (words : List ℕ) (numbers : List ℕ) (seen : List Bool) (m : OnCpu) (y : OnCpu) → (had : SoFar z.cpus x words numbers seen m)
     → HasWaited had.1 z.cpus → SomePassed z m numbers y → HasSeenAllOut z.cpus x y
 passed_out z x words numbers seen m y had waited is =
     let does = is.2 in
@@ -262,7 +253,7 @@ passed_out z x words numbers seen m y had waited is =
       waited = waited_on since (looks ++ tail) z.cpus waited;
       passed = λ t n c low gone keeps. ⊎_elim
           (λ (then : (j : ℕ) → j < z.cpus → HasPassedOn t j before). subst (HasPassedOn t c) (sym are) (passed_on t c before all (kept_entry t all keeps) (then c low)))
-          (λ (retired : (get_or numbers t None ≡ Some n) × ((j : ℕ) → j < z.cpus → (w : ℕ) × IsSnapped t j w before)).
+          (λ (retired : (word_of numbers t ≡ n) × ((j : ℕ) → j < z.cpus → (w : ℕ) × IsSnapped t j w before)).
           let first = kept_parts t since (looks ++ tail) keeps in
           let second = kept_parts t looks tail first.1 in
           subst (HasPassedOn t c) (sym to_tail) (passed_on t c does.end.log tail (kept_entry t tail second.1)
@@ -311,7 +302,7 @@ learns_turns : (z : Settings) (words : List ℕ) (n : ℕ) (x : OnCpu) (seen : L
 learns_turns z words zero x seen y after is = subst (λ (o : OnCpu). Learns x o) (sym is.0) (learns_none x)
 learns_turns z words (suc n) x seen y after is = learns_more x is.0 y (learns_turns z words n x seen is.0 is.1 is.3) (learns_hold _ is.4.0 is.0 is.4.1 y is.4.2.hold)
 
-learns_end : (z : Settings) (numbers : List (Option ℕ)) (x : OnCpu) (told : Option ℕ) (y : OnCpu) → Finishes (SomePassed z) numbers x told y → Learns x y
+learns_end : (z : Settings) (numbers : List ℕ) (x : OnCpu) (told : Option ℕ) (y : OnCpu) → Finishes (SomePassed z) numbers x told y → Learns x y
 learns_end z numbers x None y is = (learned is.1.view.history x y is.2.hears (by_meeting_again x y is.2.cpu_log), ap (λ (o : OnCpu). o.made) is.2.hears.is)
 learns_end z numbers x (Some c) y is = subst (λ (o : OnCpu). Learns x o) (sym is) (learns_none x)
 
@@ -321,3 +312,18 @@ learns_performed z turns x told y is =
     learns_more x is.begun y (learns_hold _ is.first.0 x is.first.1 is.begun is.first.2.hold)
     (learns_more is.begun last.0 y (learns_turns z is.snapshots is.waits.earlier is.begun none_seen last.0 last.1 last.2)
     (learns_more last.0 is.waited y (learns_hold _ last.3.0 last.0 last.3.1 is.waited last.3.2.hold) (learns_end z is.numbers is.waited told y is.end)))
+
+-- The promise itself
+
+pub all_ended : (z : Settings) (x y : OnCpu) → HasSeenAllOut z.cpus x y → HaveAllEnded z x y
+all_ended z x y seen s t i j k m r l v log is id at more = (
+  seen.before,
+  seen.known,
+  ends_open_sections z s t i j k m r l (as_teller x) seen.before (seen.since ++ more.0)
+      (record { cpu = v; is = is; teller = sym id; since = let same = ap (λ (d : List LogItem). length d) log in omega (arith, same) })
+      at (sym more.1 ∙ (ap (λ (d : List LogItem). d ++ more.0) seen.are ∙ append_assoc seen.before seen.since more.0)) seen.heard (λ c lt. seen_more c seen.since more.0 (seen.waited c lt)),
+)
+
+pub promised : (z : Settings) (x y : OnCpu) (result : Result (Unit {0}) Refusal) → IfOk result (λ _. HasSeenAllOut z.cpus x y) → IfOk result (λ _. HaveAllEnded z x y)
+promised z x y (Ok u) is = all_ended z x y is
+promised z x y (Err f) is = tt

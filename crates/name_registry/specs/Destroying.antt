@@ -1,10 +1,15 @@
 -- Destroying a retired entry: a turn of the work on it, what it met, how many turns were made, and what the last one's answer makes of it.
 use Rattle.std.specs.Prelude.{◌≡◌, ◌≢◌, ◌⊎◌, ℕ, zero, suc, ◌+◌, ◌<◌, ◌≤◌, ◌%◌, List, [], ◌∷◌, ◌++◌, Option, true, false, Some, None, Bool, Result, Ok, Err, IfOk, ◌*◌, length}
 use mathlib.Core.List.{IsPrefix}
+use mathlib.Core.Option.{some}
+use lib.ListN.{get_elem?}
+use Rattle.atomic_table.specs.Table.{State as Table}
+use Rattle.cpu_words.specs.declared.view.Logged.{Logged}
+use Rattle.cpu_words.specs.Freed.{HasGone}
 use Rattle.name_registry.specs.Types.{Entry, Iface, Event, Look, PassiveLook, Word, Refusal, NotRetired, Settings, Stage, Grace, Passive, Local, Freed, Rest, Retired, LogItem, KeeperView, Keeper, KeptSlot, Inside, StillHeld, Teller}
 use Rattle.registry_values.specs.Common.{bias, destroy_result_of, is_retired_as, retired_slot, slot_at, IsObstacle}
 use Rattle.protocol.specs.Common.{MarksGrow, mark_at, total_at, kept_at}
-use Rattle.cpu_words.specs.Common.{has_looked, has_looked_passive, HasLooked, IsFreedFrom, did, Makes, changes_in, heard_from, given_up, occupant, sum_collected, word_collected, words_collected, HasPassedOn, IsDetachedFrom, IsSnapped}
+use Rattle.cpu_words.specs.Common.{LoggedRuled, has_looked, has_looked_passive, HasLooked, IsFreedFrom, did, Makes, changes_in, heard_from, given_up, occupant, sum_collected, word_collected, words_collected, HasPassedOn, IsDetachedFrom, IsSnapped}
 use Rattle.passive_list.specs.Common.{OnKeeper, HasVacated, IsDrainedOn, AreHeld, HasFreed, OnCpu, HasOwnLog, HasHeardOn, cpu_after_tell}
 use Rattle.name_registry.specs.Locking.{IsStageOf, keeper_after_hear, keeper_after_tell, tells_twice_and_hears}
 
@@ -243,6 +248,18 @@ IsDestroyAnswer z n x (Err NotRetired) y = IsTurn z n x (Err NotRetired) y
 IsDestroyAnswer z n x (Err Inside) y = y ≡ x
 IsDestroyAnswer z n x (Err _) y = ⊥
 
+-- In any table under the rule, now or later, in which some seat knows of the keeper's log all that the CPU y knows: the entry n of the slot t has no slot, and nothing holds it.
+abbrev pub StaysGone : Settings → ℕ → ℕ → OnCpu → Type 0
+StaysGone z t n y = (s : Table ℕ Logged) (i : ℕ) (l : Logged) → LoggedRuled z s → get_elem? s.views i ≡ some l → IsPrefix y.known_log l.known_log → HasGone z s t n
+
+-- the seat has this much of the keeper's log: it has heard it, or is the keeper's own
+abbrev pub HasAllOf : List LogItem → Logged → Type 0
+HasAllOf log l = IsPrefix log l.known_log ⊎ ((k : KeeperView) × (l.view ≡ Keeper k) × IsPrefix log l.log)
+
+-- The same where some seat has this much of the keeper's log.
+abbrev pub StaysGoneBy : Settings → ℕ → ℕ → List LogItem → Type 0
+StaysGoneBy z t n log = (s : Table ℕ Logged) (i : ℕ) (l : Logged) → LoggedRuled z s → get_elem? s.views i ≡ some l → HasAllOf log l → HasGone z s t n
+
 -- Destroying a retired entry: how many turns of the work on it were made, and what the last one's answer makes of it.
 
 -- a turn that met an obstacle; after any other answer there is nothing more to do
@@ -287,11 +304,7 @@ pub record HasAdvancedFor (z : Settings) (a : OnKeeper) (x : OnCpu) (n : ℕ) (a
 
 -- Through the lock, whose value no contract can name: of some keeper, as the call found it and left it
 
--- one turn of the work on the entry n; a stage speaks of a CPU or a slot that there is, and an entry whose slot was freed is gone by the keeper's log
-abbrev pub SomeAdvanced : Settings → ℕ → Result Stage Refusal → Type 0
-SomeAdvanced z n answer = ((a : OnKeeper) × (b : OnKeeper) × HasAdvanced a n answer b × IsGoneIfFreed n answer b.log) × IfOk answer (λ stage. IsStageOf z stage)
-
--- the same for a CPU, which knows then what the turn met, by the keeper's log
+-- one turn of the work on the entry n for a CPU, which knows then what the turn met, by the keeper's log; a stage speaks of a CPU or a slot that there is
 abbrev pub SomeAdvancedFor : Settings → ℕ → OnCpu → Result Stage Refusal → OnCpu → Type 0
 SomeAdvancedFor z n x answer y = ((a : OnKeeper) × (b : OnKeeper) × HasAdvancedFor z a x n answer b y) × IfOk answer (λ stage. IsStageOf z stage) × IsTurn z n x answer y
 

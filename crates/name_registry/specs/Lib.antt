@@ -4,6 +4,8 @@ pub mod Auditing
 pub mod Opening
 pub mod Locking
 pub mod LookingUp
+pub mod GettingLocal
 pub mod Performing
 pub mod Changes
+pub mod WithDriver
 pub mod Types

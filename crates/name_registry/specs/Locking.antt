@@ -2,7 +2,7 @@
 use Rattle.std.specs.Prelude.{◌≡◌, ◌⊎◌, ℕ, ◌<◌, Bool, List, ◌++◌, length, Some, None, is_some, Option, ◌≢◌, true, false}
 use mathlib.Core.List.{IsPrefix}
 use Rattle.name_registry.specs.Types.{Entry, Tell, Done, LogItem, Teller, Refusal, NameTaken, NoSlot, HistoryFull, Inside, NeedsDriver, NotFound, NotRetired, StillHeld, Waiting, Settings, Stage, Grace, Passive, Local, Freed, JoinKeeper, ReferenceView, TotalSub, Key, KeptSlot}
-use Rattle.registry_values.specs.Common.{IsObstacle, is_available, is_live_as}
+use Rattle.registry_values.specs.Common.{IsObstacle, is_available, is_live_as, key_of}
 use Rattle.protocol.specs.Common.{IsAttached, EndsAt}
 use Rattle.cpu_words.specs.Common.{has_heard_from, heard_from, keeper_with_note, did, log_item, given_up}
 use Rattle.passive_list.specs.Common.{OnCpu, OnPlainCpu, OnKeeper, OnPlainKeeper, GoesOnBy, as_teller, has_heard, has_told, HasGivenUp, HasHeardOn}
@@ -62,6 +62,15 @@ pub record HasSeenDetach (x y : OnCpu) (e : Entry) : Type 0 where
   pub attached : IsAttached y.view.pass e
   pub log : y.log ≡ x.log ++ tells_and_hears x
 
+-- The replacement of f by e, one change, comes after all that the CPU had seen. The CPU has seen it, and the attach of f, by one note to the keeper and one from it.
+pub record HasSeenReplace (x y : OnCpu) (f e : Entry) : Type 0 where
+  pub later : length x.view.pass < e.number
+  pub ends : EndsAt y.view.pass f.number e.number
+  pub attached : IsAttached y.view.pass e
+  pub before : IsAttached y.view.pass f
+  pub alike : key_of e ≡ key_of f
+  pub log : y.log ≡ x.log ++ tells_and_hears x
+
 -- What a caller keeps of a call through the lock, whose value no contract can name: its CPU, and which refusals there may be.
 
 -- An attach is refused by the CPU and the kind exactly, in this order; else by what is attached.
@@ -82,6 +91,15 @@ abbrev pub IsDetachRefusedTo : Bool → Refusal → Type 0
 IsDetachRefusedTo inside Inside = inside ≡ true
 IsDetachRefusedTo inside NotFound = inside ≡ false
 IsDetachRefusedTo inside _ = ⊥
+
+-- So is a replacement, and by the kind of the entry that the reference is to.
+abbrev pub IsReplaceRefusedTo : Bool → Bool → Refusal → Type 0
+IsReplaceRefusedTo inside unfit Inside = inside ≡ true
+IsReplaceRefusedTo inside unfit NeedsDriver = (inside ≡ false) × (unfit ≡ true)
+IsReplaceRefusedTo inside unfit NotFound = MayAttach inside unfit
+IsReplaceRefusedTo inside unfit NoSlot = MayAttach inside unfit
+IsReplaceRefusedTo inside unfit HistoryFull = MayAttach inside unfit
+IsReplaceRefusedTo inside unfit _ = ⊥
 
 -- the stage speaks of a CPU or of a slot of the registry, or of some references
 abbrev pub IsStageOf : Settings → Stage → Type 0

@@ -5,7 +5,7 @@ use mathlib.Core.Option.{some}
 use lib.ListN.{get_elem?}
 use Rattle.atomic_table.specs.Seated.{TableId}
 use mathlib.Core.List.{IsPrefix}
-use Rattle.name_registry.specs.Types.{Settings, MOST_CPUS, KeeperView}
+use Rattle.name_registry.specs.Types.{Settings, KeeperView}
 use Rattle.registry_values.specs.Common.{are_fit}
 use Rattle.protocol.specs.Common.{opening, after}
 use Rattle.cpu_words.specs.Common.{Named, Seated, new_cpu, keeper_with, EndsRun, IsFreedFrom, IsGoneFrom}
@@ -43,7 +43,7 @@ pub record OnBlank : Type 0 where
 
 -- D names its table, its settings and its ledger, which has a part for each CPU that there may be: `IsBlankOf b D.table D.settings D.name D.parts`
 abbrev pub IsBlankOf : OnBlank → TableId → Settings → ℕ → ℕ → Type 0
-IsBlankOf b table settings name parts = (b.table ≡ table) × (b.settings ≡ settings) × (b.changes ≡ name) × (parts ≡ MOST_CPUS)
+IsBlankOf b table settings name parts = (b.table ≡ table) × (b.settings ≡ settings) × (b.changes ≡ name) × (parts ≡ settings.cpus)
 
 -- the first n CPUs, CPU 0 first
 pub record AreNewCpus (z : Settings) (n : ℕ) (xs : List OnCpu) : Type 0 where

@@ -1,9 +1,15 @@
 -- Waiting for open sections (pserialize(9)): which looks a perform makes under the interlock, what it makes of their answers, and in how many turns.
 use Rattle.std.specs.Prelude.{◌≡◌, ◌⊎◌, ℕ, zero, suc, ◌<◌, ◌≤◌, List, ◌++◌, length, Option, Some, None, Bool, true, false, not, Result, Err, replicate, slice_index_or}
+use Rattle.std.specs.Option.{unwrap_or}
 use mathlib.Core.List.{IsPrefix}
-use Rattle.name_registry.specs.Types.{Event, Look, Snapshot, Tell, Done, Word, Refusal, Inside, Settings, MOST_CPUS, MOST_SLOTS, LogItem, KeeperView, Keeper}
+use mathlib.Core.Option.{some}
+use lib.ListN.{get_elem?}
+use Rattle.atomic_table.specs.Table.{State as Table}
+use Rattle.cpu_words.specs.declared.view.Logged.{Logged}
+use Rattle.cpu_words.specs.Called.{HaveEndedAll}
+use Rattle.name_registry.specs.Types.{Event, Look, Snapshot, Tell, Done, Word, Refusal, Inside, Settings, MOST_CPUS, MOST_SLOTS, LogItem, KeeperView, Keeper, Cpu, CpuView}
 use Rattle.registry_values.specs.Common.{wait_answer, is_out, least_below, is_retired_as, retired_number, slot_at}
-use Rattle.cpu_words.specs.Common.{changes_in, HasHeardFrom, HasPassedOn, HasWaited, IsDetachedFrom, KeepsSlot, keeper_after_look, keeper_with_note, did, Makes}
+use Rattle.cpu_words.specs.Common.{RunsAsLogged, TwoMoments, changes_in, HasHeardFrom, HasPassedOn, HasWaited, IsDetachedFrom, KeepsSlot, keeper_after_look, keeper_with_note, did, Makes}
 use Rattle.passive_list.specs.Common.{OnCpu, OnKeeper, HasOwnLog, HasHeardOn, as_teller, cpu_after_tell, GoesOnBy}
 use Rattle.name_registry.specs.Destroying.{IsLook, HasLookedFor, MeetsGrace, PassedBelow}
 use Rattle.name_registry.specs.Locking.{hears_cpu, keeper_after_hear, keeper_after_tell, tells_and_hears, tells_twice_and_hears}
@@ -23,7 +29,7 @@ pub record LooksOnce (k : Looking) (e : Event) (w : ℕ) (l : Looking) : Type 0 
   pub event : Makes e (Word w) (Keeper k.view) (Keeper l.view)
   pub change : l ≡ record { view = keeper_after_look k.view e (Word w); log = k.log ++ did e (Word w) }
 
--- what a list by CPUs has of the CPU c
+-- what a row has of the CPU or the slot c
 
 abbrev pub word_of : List ℕ → ℕ → ℕ
 word_of words c = slice_index_or words c 0
@@ -66,11 +72,11 @@ pub record Hold (looks : Looking → Looking → Type 0) (a : OnKeeper) (x : OnC
 
 -- The parts that are lent the keeper
 
--- As a perform begins: one snapshot of each CPU, and of each slot the number of the entry that is retired there; the keeper's log has what the keeper has.
-pub record HasBegun (z : Settings) (a : OnKeeper) (x : OnCpu) (snapshots : List ℕ) (retired : List (Option ℕ)) (b : OnKeeper) (y : OnCpu) : Type 0 where
+-- As a perform begins: one snapshot of each CPU, and of each slot the number of the entry that is retired there, or 0, which no entry has; the keeper's log has what the keeper has.
+pub record HasBegun (z : Settings) (a : OnKeeper) (x : OnCpu) (snapshots retired : List ℕ) (b : OnKeeper) (y : OnCpu) : Type 0 where
   pub own : HasOwnLog z a
   pub hold : Hold (SnapshotsBelow snapshots z.cpus) a x b y
-  pub numbers : (t : ℕ) → t < MOST_SLOTS → slice_index_or retired t None ≡ retired_number (slot_at a.slots t)
+  pub numbers : (t : ℕ) → t < MOST_SLOTS → word_of retired t ≡ unwrap_or (retired_number (slot_at a.slots t)) 0
 
 -- One turn: a glance at each CPU that wasn't seen yet, and the least that still wasn't.
 pub record HasGlanced (z : Settings) (snapshots : List ℕ) (a : OnKeeper) (x : OnCpu) (seen : List Bool) (told : Option ℕ) (after : List Bool) (b : OnKeeper) (y : OnCpu) : Type 0 where
@@ -92,18 +98,14 @@ PassesIf false z a t b = b ≡ a
 abbrev pub PassesEntry : Settings → OnKeeper → ℕ → ℕ → OnKeeper → Type 0
 PassesEntry z a t n b = PassesIf (is_retired_as n (slot_at a.slots t)) z a t b
 
-abbrev pub PassesNumber : Settings → OnKeeper → ℕ → Option ℕ → OnKeeper → Type 0
-PassesNumber z a t None b = b ≡ a
-PassesNumber z a t (Some n) b = PassesEntry z a t n b
-
 -- the first n numbers, one by slot
-abbrev pub PassesBelow : Settings → List (Option ℕ) → ℕ → OnKeeper → OnKeeper → Type 0
+abbrev pub PassesBelow : Settings → List ℕ → ℕ → OnKeeper → OnKeeper → Type 0
 PassesBelow z numbers zero a b = b ≡ a
-PassesBelow z numbers (suc n) a b = (m : OnKeeper) × PassesBelow z numbers n a m × PassesNumber z m n (slice_index_or numbers n None) b
+PassesBelow z numbers (suc n) a b = (m : OnKeeper) × PassesBelow z numbers n a m × PassesEntry z m n (word_of numbers n) b
 
 -- As a perform ends: the keeper a hears what the CPU x knows, makes its looks for the entries with these numbers, and hears once more, so that its log has what they told. At the end the CPU hears the
 -- history and all that the keeper did.
-pub record HasPassedAll (z : Settings) (a : OnKeeper) (x : OnCpu) (numbers : List (Option ℕ)) (b : OnKeeper) (y : OnCpu) : Type 0 where
+pub record HasPassedAll (z : Settings) (a : OnKeeper) (x : OnCpu) (numbers : List ℕ) (b : OnKeeper) (y : OnCpu) : Type 0 where
   pub known : IsPrefix x.known_log a.log
   pub end : OnKeeper
   pub passes : PassesBelow z numbers MOST_SLOTS (keeper_after_hear a x) end
@@ -135,7 +137,7 @@ module _ {X : Type 0} (turn : X → List Bool → Option ℕ → List Bool → X
     pub enough : (answer ≡ None) ⊎ (suc earlier ≡ turns)
 
 -- of a CPU that a turn told the section may be open still: nothing more is done; where none was told, what was retired is passed
-abbrev pub Finishes : {X : Type 0} → (X → List (Option ℕ) → X → Type 0) → List (Option ℕ) → X → Option ℕ → X → Type 0
+abbrev pub Finishes : {X : Type 0} → (X → List ℕ → X → Type 0) → List ℕ → X → Option ℕ → X → Type 0
 Finishes passes numbers x None y = passes x numbers y
 Finishes passes numbers x (Some c) y = y ≡ x
 
@@ -144,10 +146,10 @@ abbrev pub none_seen : List Bool
 none_seen = replicate MOST_CPUS false
 
 -- A perform: it begins once, waits in at most so many turns for the sections of the snapshots that it took, and at the end passes the entries whose numbers it took.
-pub record Performs {X : Type 0} (begins : X → List ℕ → List (Option ℕ) → X → Type 0) (turn : List ℕ → X → List Bool → Option ℕ → List Bool → X → Type 0)
-    (passes : X → List (Option ℕ) → X → Type 0) (turns : ℕ) (x : X) (answer : Option ℕ) (y : X) : Type 0 where
+pub record Performs {X : Type 0} (begins : X → List ℕ → List ℕ → X → Type 0) (turn : List ℕ → X → List Bool → Option ℕ → List Bool → X → Type 0)
+    (passes : X → List ℕ → X → Type 0) (turns : ℕ) (x : X) (answer : Option ℕ) (y : X) : Type 0 where
   pub snapshots : List ℕ
-  pub numbers : List (Option ℕ)
+  pub numbers : List ℕ
   pub begun : X
   pub waited : X
   pub first : begins x snapshots numbers begun
@@ -156,13 +158,13 @@ pub record Performs {X : Type 0} (begins : X → List ℕ → List (Option ℕ) 
 
 -- Through the lock, whose value no contract can name: of some keeper, as the call found it and left it. What stands between two holds is the caller's CPU.
 
-abbrev pub SomeBegan : Settings → OnCpu → List ℕ → List (Option ℕ) → OnCpu → Type 0
+abbrev pub SomeBegan : Settings → OnCpu → List ℕ → List ℕ → OnCpu → Type 0
 SomeBegan z x snapshots numbers y = (a : OnKeeper) × (b : OnKeeper) × HasBegun z a x snapshots numbers b y
 
 abbrev pub SomeGlanced : Settings → List ℕ → OnCpu → List Bool → Option ℕ → List Bool → OnCpu → Type 0
 SomeGlanced z snapshots x seen told after y = (a : OnKeeper) × (b : OnKeeper) × HasGlanced z snapshots a x seen told after b y
 
-abbrev pub SomePassed : Settings → OnCpu → List (Option ℕ) → OnCpu → Type 0
+abbrev pub SomePassed : Settings → OnCpu → List ℕ → OnCpu → Type 0
 SomePassed z x numbers y = (a : OnKeeper) × (b : OnKeeper) × HasPassedAll z a x numbers b y
 
 -- What a call of perform made, by the lowest-numbered CPU that it told.
@@ -189,3 +191,9 @@ pub record HasSeenAllOut (cpus : ℕ) (x y : OnCpu) : Type 0 where
   pub seen : length x.view.pass ≤ changes_in before
   pub waited : HasWaited since cpus
   pub passed : (t n c : ℕ) → c < cpus → IsDetachedFrom t n before → KeepsSlot t since → HasPassedOn t c y.known_log
+
+-- At two moments under the rule: as the call began, with the CPU x at the seat j, and at any moment since it ended, at which some seat k knows of the keeper's log all that the CPU y knew then.
+-- Each section that was open at the first, by what any seat i knew of the list, has had its exit; if i is a CPU that was inside, by its own log.
+abbrev pub HaveAllEnded : Settings → OnCpu → OnCpu → Type 0
+HaveAllEnded z x y = (s t : Table ℕ Logged) (i j k : ℕ) (m : TwoMoments z s t i j) (r : RunsAsLogged z t) (l : Logged) (v : CpuView) → m.doer.log ≡ x.log → m.does.view ≡ Cpu v → v.id ≡ x.view.id
+    → get_elem? t.views k ≡ some l → IsPrefix y.known_log l.known_log → (before : List LogItem) × IsPrefix x.known_log before × HaveEndedAll m r before

@@ -17,7 +17,7 @@ use registry_values::{Refusal, Stage, is_retired_as, settled};
 
 /// Makes one turn of the work on the retired entry `number`, up to the first obstacle, lowest-numbered CPU first. Returns what it met:
 ///
-/// - `Grace`: the CPU's section from the keeper's first look is still open (pserialize(9)).
+/// - `Grace`: the CPU's section that was open as the detach took its snapshot is still open (pserialize(9)).
 /// - `Passive`: the CPU has a passive reference to the entry (psref(9)), or tries to get one in its slot.
 /// - `Local`: so many local references to it are left, at least 1 (localcount(9)). All count words are collected then.
 /// - `Freed`: nothing; the slot, from 0, is vacant now.

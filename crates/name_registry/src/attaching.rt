@@ -6,9 +6,11 @@ ghost use Rattle.registry_values.specs.Common.{is_key, is_live_as};
 ghost use Rattle.cpu_words.specs.Common.{AreWordsOf};
 ghost use Rattle.name_registry.specs.Changes.{attach_answer, attach_iface_answer, HasAttachedFor, HasAttachedIfaceFor, IsDetachAnswer, IsLivePlace, HasDetachedFor};
 ghost use Rattle.name_registry.specs.Locking.{KeepsWords, is_live_row};
+ghost use Rattle.name_registry.specs.WithDriver.{AttachesByName};
 
 use crate::exchange::{hear_cpu, show_cpu};
 use crate::first_fit::entry_for;
+use crate::with_driver::{as_needed, let_go, take_driver};
 use cpu_words::Words;
 use local_count::{PlainRef, publish_iface};
 use passive_list::{Keeper, KeptSlot, PlainCpu, publish, retire};
@@ -82,6 +84,47 @@ pub fn attach_iface_in(
     Ok(entry)
 }
 
+/// Attaches an interface on the live driver with the name `driver`, to which the CPU gets a local reference in a section of its own: the
+/// interface's slot keeps that. Else it is as `attach_iface_in`. Condition: the name's words aren't both 0.
+///
+/// Refused, in this order: `Inside`; `SectionsSpent`; `NeedsDriver` if no live driver has that name; `LocalFull`; `NameTaken`; `NoSlot`;
+/// `HistoryFull`. Nothing is attached then, and the reference is released.
+#[tactic(auto, using(crate::proofs::Attached::inside_is, crate::proofs::Driver::in_section, crate::proofs::Driver::no_driver, crate::proofs::Driver::on_driver))]
+pub fn attach_iface_by_name_in(
+    words: &Words,
+    keeper: &mut Keeper,
+    cpu: &mut PlainCpu,
+    driver: &Name,
+    name: &Name,
+    value: u64,
+) -> Result<Entry, Refusal>
+    requires words { AreWordsOf words.now keeper.old.words.table keeper.old.words.settings }
+    requires cpu { AreWordsOf words.now cpu.old.words.table cpu.old.words.settings }
+    requires name { IsTrue (is_key name.now) }
+    ensures attaches { AttachesByName keeper.old.words.settings keeper.old.keeper cpu.old.cpu driver.now (record { kind = Iface; name = name.now; value = value }) keeper.new.keeper cpu.new.cpu result }
+    ensures words { KeepsWords keeper.old cpu.old keeper.new cpu.new }
+{
+    if cpu.inside() {
+        return Err(Refusal::Inside);
+    }
+    let rec = Record {
+        kind: Kind::Iface,
+        name: *name,
+        value,
+    };
+    let reference = match take_driver(words, keeper, cpu, driver) {
+        Ok(reference) => reference,
+        Err(refusal) => return Err(as_needed(refusal)),
+    };
+    match attach_iface_in(words, keeper, cpu, rec, reference) {
+        Ok(entry) => Ok(entry),
+        Err((refusal, reference)) => {
+            let_go(words, keeper, cpu, reference);
+            Err(refusal)
+        }
+    }
+}
+
 /// Detaches the live entry with the kind and the name, and returns it. Lookups that begin from now on don't find it, and the caller's CPU
 /// has seen its change. It is retired: `advance_in` works on it. It takes no memory.
 /// Refused, in this order, and nothing has changed then: `Inside` if the CPU is inside a section; `NotFound` if no live entry has both.
@@ -110,7 +153,7 @@ pub fn detach_in(
 
 /// The slot of the live entry with this kind and name, which a lookup gives now.
 #[tactic(auto, using(crate::proofs::Worked::live_in_rows))]
-fn live_place(keeper: &Keeper, key: Key) -> Option<u8>
+pub(crate) fn live_place(keeper: &Keeper, key: Key) -> Option<u8>
     ensures value { result ≡ position (is_live_as key) keeper.now.keeper.slots }
     ensures lookup { IsLivePlace keeper.now.keeper key result }
     ensures within { IfSome result (λ t. t < length keeper.now.keeper.slots) }

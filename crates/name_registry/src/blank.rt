@@ -10,7 +10,7 @@ use crate::interlock::Interlock;
 use crate::registry::Registry;
 use cpu_words::{CpuSeat, Domain, KeeperSeat, Words};
 use passive_list::{Cpu, CpuRows, Keeper, KeeperRows, PlainCpu};
-use registry_values::{MOST_CPUS, Refusal, Settings};
+use registry_values::{Refusal, Settings};
 use std::alloc::{AllocError, Global};
 use std::marker::Model;
 use std::sync::ledger::Share;
@@ -28,14 +28,13 @@ pub struct Blank {
 
 impl Model for Blank {
     ghost use Rattle.std.specs.Prelude.{◌≡◌};
-    ghost use Rattle.name_registry.specs.Types.{MOST_CPUS};
     ghost use Rattle.name_registry.specs.Opening.{IsBlank, OnBlank, boxed};
 
     ghost Value = { OnBlank };
 
     ghost view = { λ b. record { table = b.words.table; settings = b.words.settings; changes = b.changes.name } };
 
-    ghost invariant = { λ b. IsBlank b.words b.keeper (boxed b.cpus.items) × (b.changes.parts ≡ MOST_CPUS) };
+    ghost invariant = { λ b. IsBlank b.words b.keeper (boxed b.cpus.items) × (b.changes.parts ≡ b.words.settings.cpus) };
 }
 
 impl Blank {
@@ -110,11 +109,12 @@ fn blank_of(
     let Ok(cpus) = cpus_of(alloc, &words, seats) else {
         return Err(Refusal::NoMemory);
     };
+    let settings = words.settings();
     Ok(Blank {
         words,
         keeper,
         cpus,
-        changes: ledger::Blank::new(MOST_CPUS as u64),
+        changes: ledger::Blank::new(u64::from(settings.cpus)),
     })
 }
 
@@ -142,7 +142,7 @@ fn name_cpus<D: Domain>(plain: Vec<Box<PlainCpu>>, cpus: &mut Vec<Cpu<D>>, mut s
     requires fit { IsTrue (are_fit D.settings) }
     requires plain { AreOpened (record { table = D.table; settings = D.settings }) D.settings.cpus (boxed plain.items) }
     requires room { (cpus.old.items ≡ []) × (vec_len cpus.old ≡ 0) × (D.settings.cpus ≤ vec_capacity cpus.old) }
-    requires parts { (shares.parts ≡ MOST_CPUS) × (shares.amount ≡ 0) }
+    requires parts { (shares.parts ≡ D.settings.cpus) × (shares.amount ≡ 0) }
     ensures { AreNewCpus D.settings D.settings.cpus cpus.new.items }
 {
     for cpu in plain {

@@ -2,7 +2,7 @@
 
 ghost use Rattle.std.specs.Prelude.{◌≡◌, ◌<◌, ◌≤◌, IfOk, IfErr, false};
 ghost use Rattle.cpu_words.specs.Common.{IsFreedFrom, AreWordsOf};
-ghost use Rattle.name_registry.specs.Destroying.{Destroys, DestroysOutside, HasAdvancedFor, IsDestroyAnswer, IsTurn};
+ghost use Rattle.name_registry.specs.Destroying.{Destroys, DestroysOutside, HasAdvancedFor, IsDestroyAnswer, IsTurn, StaysGone};
 ghost use Rattle.name_registry.specs.Locking.{IsDestroyRefusal, IsStageOf, KeepsWords, is_inside, HasLearned};
 
 use crate::advancing::advance_in;
@@ -39,6 +39,7 @@ impl<D: Domain> Registry<D> {
         ensures freed { IfOk result (λ slot. (is_inside cpu.old ≡ false) × (slot < D.settings.slots)) }
         ensures refused { IfErr result (λ refusal. IsDestroyRefusal D.settings (is_inside cpu.old) refusal) }
         ensures gone { IfOk result (λ slot. IsFreedFrom slot number cpu.new.known_log) }
+        ensures forever { IfOk result (λ slot. StaysGone D.settings slot number cpu.new) }
         ensures answer { IsDestroyAnswer D.settings number cpu.old result cpu.new }
         ensures made { DestroysOutside D.settings number turns (is_inside cpu.old) cpu.old result cpu.new }
         ensures learned { HasLearned cpu.old cpu.new × (cpu.new.made ≡ cpu.old.made) }

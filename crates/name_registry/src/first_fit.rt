@@ -4,7 +4,7 @@ ghost use Rattle.std.specs.Prelude.{◌≡◌, ◌<◌, ◌≤◌, IfOk, IfSome,
 ghost use Rattle.std.specs.List.{list_any};
 ghost use Rattle.registry_values.specs.Common.{key_of_record, is_taken, live_count};
 ghost use Rattle.passive_list.specs.Common.{states_of};
-ghost use Rattle.name_registry.specs.Changes.{given_entry, first_fit, room_answer, room_of};
+ghost use Rattle.name_registry.specs.Changes.{given_entry, first_fit, room_answer, room_of, slot_answer};
 ghost use Rattle.name_registry.specs.Locking.{is_live_row, is_available_row};
 
 use passive_list::{Keeper, KeptSlot};
@@ -24,13 +24,24 @@ pub(crate) fn entry_for(keeper: &Keeper, rec: Record) -> Result<Entry, Refusal>
 pub fn room_in(keeper: &Keeper) -> Result<(), Refusal>
     ensures { result ≡ room_answer keeper.now.words.settings keeper.now.keeper }
 {
-    let Some(_) = first_fit(keeper) else {
+    match slot_for(keeper) {
+        Ok(_) => Ok(()),
+        Err(refusal) => Err(refusal),
+    }
+}
+
+/// The slot of a new entry, if it has room. Refused, in this order: `NoSlot`, `HistoryFull`.
+pub(crate) fn slot_for(keeper: &Keeper) -> Result<u8, Refusal>
+    ensures value { result ≡ slot_answer keeper.now.words.settings keeper.now.keeper }
+    ensures within { IfOk result (λ t. t < keeper.now.words.settings.slots) }
+{
+    let Some(slot) = first_fit(keeper) else {
         return Err(Refusal::NoSlot);
     };
     if !has_room(room(keeper)) {
         return Err(Refusal::HistoryFull);
     }
-    Ok(())
+    Ok(slot)
 }
 
 /// Whether a live entry has the record's kind and name.

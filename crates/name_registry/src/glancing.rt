@@ -1,10 +1,11 @@
 //! The parts of a `perform`, for a caller that holds the keeper: snapshots, glances, and at the end looks for what was retired. In each hold
 //! of the interlock the keeper hears first what the caller's CPU knows, and at the end the CPU hears what the keeper did.
 
-ghost use Rattle.std.specs.Prelude.{◌≡◌, ◌<◌, ◌≤◌, ℕ, None, slice_index_or};
+ghost use Rattle.std.specs.Prelude.{◌≡◌, ◌<◌, ◌≤◌, ℕ};
+ghost use Rattle.std.specs.Option.{unwrap_or};
 ghost use Rattle.registry_values.specs.Common.{retired_number, slot_at};
 ghost use Rattle.cpu_words.specs.Common.{AreWordsOf};
-ghost use Rattle.name_registry.specs.Performing.{GlancesBelow, GlancesOnce, HasBegun, HasGlanced, HasPassedAll, PassesBelow, PassesEntry, SnapshotsBelow, looking};
+ghost use Rattle.name_registry.specs.Performing.{GlancesBelow, GlancesOnce, HasBegun, HasGlanced, HasPassedAll, PassesBelow, PassesEntry, SnapshotsBelow, looking, word_of};
 ghost use Rattle.name_registry.specs.Locking.{KeepsWords};
 
 use crate::advancing::look_at_all;
@@ -13,49 +14,48 @@ use cpu_words::Words;
 use passive_list::{Keeper, PlainCpu, glance, snapshot};
 use registry_values::{MOST_CPUS, MOST_SLOTS, first_unseen, is_out, is_retired_as, retired_number};
 
-/// Begins a wait until each section that is open now has ended: the section word of each CPU, and the number of each retired entry, slot by
-/// slot. It takes no memory. The waiting is by `glance_at_all`, and its end by `pass_all`.
+/// Begins a wait until each section that is open now has ended. Writes the section word of each CPU, and of each slot the number of its
+/// retired entry, or 0, which no entry has. The waiting is by `glance_at_all`, and its end by `pass_all`, with the same rows.
 #[tactic(auto, using(crate::proofs::Passed::made_hold))]
 pub fn begin(
     words: &Words,
     keeper: &mut Keeper,
     cpu: &mut PlainCpu,
-) -> ([u64; MOST_CPUS], [Option<u64>; MOST_SLOTS])
+    snapshots: &mut [u64; MOST_CPUS],
+    retired: &mut [u64; MOST_SLOTS],
+)
     requires words { AreWordsOf words.now keeper.old.words.table keeper.old.words.settings }
     requires cpu { AreWordsOf words.now cpu.old.words.table cpu.old.words.settings }
-    ensures begun { HasBegun keeper.old.words.settings keeper.old.keeper cpu.old.cpu result.0 result.1 keeper.new.keeper cpu.new.cpu }
+    ensures begun { HasBegun keeper.old.words.settings keeper.old.keeper cpu.old.cpu snapshots.new retired.new keeper.new.keeper cpu.new.cpu }
     ensures words { KeepsWords keeper.old cpu.old keeper.new cpu.new }
 {
-    let numbers = retired_numbers(keeper);
+    write_retired(keeper, retired);
     hear_cpu(words, keeper, cpu);
-    let snapshots = snapshot_all(words, keeper);
+    snapshot_all(words, keeper, snapshots);
     show_cpu(words, keeper, cpu);
-    (snapshots, numbers)
 }
 
-/// One snapshot of each CPU, CPU 0 first.
-fn snapshot_all(words: &Words, keeper: &mut Keeper) -> [u64; MOST_CPUS]
+/// One snapshot of each CPU, CPU 0 first, and zeros past the last.
+fn snapshot_all(words: &Words, keeper: &mut Keeper, snapshots: &mut [u64; MOST_CPUS])
     requires words { AreWordsOf words.now keeper.old.words.table keeper.old.words.settings }
-    ensures looks { SnapshotsBelow result words.now.settings.cpus (looking keeper.old.keeper) (looking keeper.new.keeper) }
+    ensures looks { SnapshotsBelow snapshots.new words.now.settings.cpus (looking keeper.old.keeper) (looking keeper.new.keeper) }
     ensures slots { keeper.new.keeper.slots ≡ keeper.old.keeper.slots }
     ensures words { keeper.new.words ≡ keeper.old.words }
 {
-    let mut snapshots = [0; MOST_CPUS];
+    *snapshots = [0; MOST_CPUS];
     for cpu in 0..keeper.settings().cpus {
         snapshots[cpu as usize] = snapshot(words, keeper, cpu);
     }
-    snapshots
 }
 
-/// The number of each retired entry, slot by slot.
-fn retired_numbers(keeper: &Keeper) -> [Option<u64>; MOST_SLOTS]
-    ensures { (t : ℕ) → t < MOST_SLOTS → slice_index_or result t None ≡ retired_number (slot_at keeper.now.keeper.slots t) }
+/// The number of each retired entry in the place of its slot, and 0 in the others.
+fn write_retired(keeper: &Keeper, retired: &mut [u64; MOST_SLOTS])
+    ensures { (t : ℕ) → t < MOST_SLOTS → word_of retired.new t ≡ unwrap_or (retired_number (slot_at keeper.now.keeper.slots t)) 0 }
 {
-    let mut numbers = [None; MOST_SLOTS];
+    *retired = [0; MOST_SLOTS];
     for slot in 0..keeper.settings().slots {
-        numbers[slot as usize] = retired_number(keeper.slot(slot));
+        retired[slot as usize] = retired_number(keeper.slot(slot)).unwrap_or(0);
     }
-    numbers
 }
 
 /// One turn of such a wait: a glance at each CPU that wasn't seen out of the section of its snapshot yet. Returns the lowest-numbered CPU
@@ -111,42 +111,34 @@ fn glances(words: &Words, keeper: &mut Keeper, cpu: u8, snapshot: u64, seen: boo
     is_out(snapshot, glance(words, keeper, cpu))
 }
 
-/// The end of such a wait, once all CPUs were seen: looks at each CPU for the retired entries with these numbers, one by slot. One that was
-/// freed since is left out. The keeper hears once more after its looks, so that it finds in its log what they told, and tells the CPU that
+/// The end of such a wait, once all CPUs were seen: looks at each CPU for the retired entries with these numbers, one by slot. A slot whose
+/// entry was freed since is left out, and so is one with the number 0. The keeper hears once more after its looks, so that it finds in its log what they told, and tells the CPU that
 /// log. It takes no memory.
-pub fn pass_all(
-    words: &Words,
-    keeper: &mut Keeper,
-    cpu: &mut PlainCpu,
-    numbers: &[Option<u64>; MOST_SLOTS],
-)
+pub fn pass_all(words: &Words, keeper: &mut Keeper, cpu: &mut PlainCpu, retired: &[u64; MOST_SLOTS])
     requires words { AreWordsOf words.now keeper.old.words.table keeper.old.words.settings }
     requires cpu { AreWordsOf words.now cpu.old.words.table cpu.old.words.settings }
-    ensures passed { HasPassedAll keeper.old.words.settings keeper.old.keeper cpu.old.cpu numbers.now keeper.new.keeper cpu.new.cpu }
+    ensures passed { HasPassedAll keeper.old.words.settings keeper.old.keeper cpu.old.cpu retired.now keeper.new.keeper cpu.new.cpu }
     ensures words { KeepsWords keeper.old cpu.old keeper.new cpu.new }
 {
     hear_cpu(words, keeper, cpu);
-    pass_entries(words, keeper, numbers);
+    pass_entries(words, keeper, retired);
     hear_cpu(words, keeper, cpu);
     show_cpu(words, keeper, cpu);
 }
 
 /// The passes, up to the last slot of the table.
-fn pass_entries(words: &Words, keeper: &mut Keeper, numbers: &[Option<u64>; MOST_SLOTS])
+fn pass_entries(words: &Words, keeper: &mut Keeper, retired: &[u64; MOST_SLOTS])
     requires words { AreWordsOf words.now keeper.old.words.table keeper.old.words.settings }
-    ensures passes { PassesBelow words.now.settings numbers.now MOST_SLOTS keeper.old.keeper keeper.new.keeper }
+    ensures passes { PassesBelow words.now.settings retired.now MOST_SLOTS keeper.old.keeper keeper.new.keeper }
     ensures words { keeper.new.words ≡ keeper.old.words }
 {
     for slot in 0..keeper.settings().slots {
-        if let Some(number) = numbers[slot as usize] {
-            pass_entry(words, keeper, slot, number);
-        }
+        pass_entry(words, keeper, slot, retired[slot as usize]);
     }
 }
 
 /// Looks at each CPU for the entry with this number, where it is still retired in its slot, up to the first CPU that doesn't pass.
-/// Condition: the slot is below `MOST_SLOTS`.
-pub fn pass_entry(words: &Words, keeper: &mut Keeper, slot: u8, number: u64)
+fn pass_entry(words: &Words, keeper: &mut Keeper, slot: u8, number: u64)
     requires words { AreWordsOf words.now keeper.old.words.table keeper.old.words.settings }
     requires place { slot < MOST_SLOTS }
     ensures passes { PassesEntry words.now.settings keeper.old.keeper slot number keeper.new.keeper }

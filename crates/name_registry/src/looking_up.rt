@@ -1,142 +1,281 @@
-//! Lookups and gets by memory: a CPU that has found an entry loads one word to see that it is live still.
+//! Lookups, gets, and enters with a find. From outside they go by memory: a CPU that has found an entry loads one word to see that it is live
+//! still. In an open section they are finds.
 
-ghost use Rattle.std.specs.Prelude.{◌≡◌, ◌≢◌, IsTrue, None};
+ghost use Rattle.std.specs.Prelude.{◌≡◌, ◌≢◌, ◌<◌, IfOk, IfSome, IsTrue, None};
+ghost use Rattle.protocol.specs.Common.{entry_with};
 ghost use Rattle.cpu_words.specs.Common.{AreWordsOf, key_with};
-ghost use Rattle.passive_list.specs.Common.{may_begin};
-ghost use Rattle.name_registry.specs.LookingUp.{FindsAndAcquires, Gets, GetsAnew, GetsFound, GetsInSection, LooksUp, LooksUpInSection, found_or};
+ghost use Rattle.passive_list.specs.Common.{entry_seen, may_begin};
+ghost use Rattle.name_registry.specs.LookingUp.{EntersAndFinds, FindsAndAcquires, Gets, GetsAnew, GetsFound, GetsInSection, LooksInside, LooksUp, MayBegin, found_or, got_of, looked_up};
 
 use crate::registry::Registry;
 use cpu_words::{Domain, Words};
-use passive_list::{Cpu, enter, exit, find_inside, find_remembered, may_begin_on};
-use passive_ref::{Psref, acquire, get_remembered};
-use registry_values::{Entry, Kind, Name, Refusal};
+use passive_list::{
+    Cpu, PlainCpu, Seen, enter_on, exit_on, find_by_memory, find_inside_on, may_begin_on,
+};
+use passive_ref::{Psref, acquire_on, get_by_memory};
+use registry_values::{Entry, Key, Kind, MOST_SLOTS, Name, Record, Refusal};
 
 impl<D: Domain> Registry<D> {
-    /// Looks an entry up by its kind and name, and holds nothing from then on.
+    /// Looks an entry up by its kind and name.
     ///
     /// Outside a section it goes by memory. If the CPU remembers an entry with this kind and name, it loads one word. If that says that the entry
     /// is live, the entry is the registry's answer at the very point of that load. Else it looks up in a section of its own, and remembers the
-    /// result. In an open section it is an enter, a find and an exit: the last found entry is the result then.
-    /// Refused: `TooDeep`, `SectionsSpent`, as `enter`, and nothing has changed; `NotFound`.
+    /// result. Nothing is held from then on. In an open section it is a find: the result is the last found entry then.
+    /// Refused: `SectionsSpent` outside, if no section is left, and nothing has changed; `NotFound`.
     #[inline(always)]
     pub fn look_up(&self, cpu: &mut Cpu<D>, kind: Kind, name: &Name) -> Result<Entry, Refusal>
         ensures { LooksUp (key_with kind name.now) cpu.old cpu.new result }
     {
-        if may_begin_on(&self.words, &cpu.plain) {
-            return found_or(find_remembered(&self.words, cpu, kind, name));
-        }
-        look_up_in_section(&self.words, cpu, kind, name)
+        let key = Key { kind, name: *name };
+        let looked = look_up_in(&self.words, &mut cpu.plain, key);
+        with_entry(key, looked)
     }
 
     /// Looks an entry up and acquires a passive reference to it (psref(9)).
     ///
     /// Outside a section it goes by memory: for an entry that the CPU remembers it adds 1 to a word of the CPU's, and loads one word. If that
     /// says that the entry is live, the addition is the reference. Else it looks the entry up as `look_up` does, and tries once more if there is
-    /// one. If that fails too, and in an open section, it is an enter, a find, an acquire and an exit.
-    /// Refused: `TooDeep`, `SectionsSpent`, as `enter`, and nothing has changed; `NotFound`; `PassiveFull`. Nothing is acquired then.
+    /// one. If that fails too, it is an enter, a find, an acquire and an exit. In an open section it is a find and an acquire.
+    /// Refused: `SectionsSpent` outside, if no section is left, and nothing has changed; `NotFound`; `PassiveFull`. Nothing is acquired then.
     #[inline(always)]
     pub fn get(&self, cpu: &mut Cpu<D>, kind: Kind, name: &Name) -> Result<(Entry, Psref), Refusal>
         ensures { Gets (key_with kind name.now) cpu.old cpu.new result }
     {
-        if !may_begin_on(&self.words, &cpu.plain) {
-            return get_in_section(&self.words, cpu, kind, name);
-        }
-        if let Some(got) = get_remembered(&self.words, cpu, kind, name) {
-            return Ok(got);
-        }
-        get_anew(&self.words, cpu, kind, name)
+        let key = Key { kind, name: *name };
+        let got = get_in(&self.words, &mut cpu.plain, key);
+        with_entry_got(key, got)
     }
 }
 
-/// Looks an entry up in a section. It stands apart, so that a lookup by memory saves no register for it.
-#[inline(never)]
-fn look_up_in_section<D: Domain>(
-    words: &Words,
-    cpu: &mut Cpu<D>,
-    kind: Kind,
-    name: &Name,
-) -> Result<Entry, Refusal>
-    requires words { AreWordsOf words.now D.table D.settings }
-    ensures { LooksUpInSection (key_with kind name.now) cpu.old cpu.new result }
+/// `Registry::look_up` on a CPU that names its own table. Returns the words of the entry. Condition: the words are its table's.
+#[inline(always)]
+pub fn look_up_in(words: &Words, cpu: &mut PlainCpu, key: Key) -> Result<Seen, Refusal>
+    requires words { AreWordsOf words.now cpu.old.words.table cpu.old.words.settings }
+    ensures looks { LooksUp key cpu.old.cpu cpu.new.cpu (looked_up key result) }
+    ensures slot { IfOk result (λ seen. seen.slot < MOST_SLOTS) }
+    ensures words { cpu.new.words ≡ cpu.old.words }
 {
-    enter(words, cpu)?;
-    let found = find_inside(words, cpu, kind, name);
-    exit(words, cpu);
-    found_or(found)
+    if may_begin_on(words, cpu) {
+        let seen = find_by_memory(words, cpu, key.kind, key.name);
+        return found_or(key, seen);
+    }
+    look_up_nested(words, cpu, key)
+}
+
+/// A lookup where it may begin no section. It stands apart, so that a lookup by memory saves no register for it.
+#[inline(never)]
+fn look_up_nested(words: &Words, cpu: &mut PlainCpu, key: Key) -> Result<Seen, Refusal>
+    requires words { AreWordsOf words.now cpu.old.words.table cpu.old.words.settings }
+    requires not { MayBegin cpu.old.cpu → ⊥ }
+    ensures looks { LooksUp key cpu.old.cpu cpu.new.cpu (looked_up key result) }
+    ensures slot { IfOk result (λ seen. seen.slot < MOST_SLOTS) }
+    ensures words { cpu.new.words ≡ cpu.old.words }
+{
+    if cpu.depth == 0 {
+        return Err(Refusal::SectionsSpent);
+    }
+    find_in(words, cpu, key)
+}
+
+/// Looks an entry up in the open section, by memory where that serves. Returns its words: it is the last found entry then.
+/// Refused: `NotFound`. Conditions: the words are the CPU's table's; inside.
+#[inline(always)]
+pub fn find_in(words: &Words, cpu: &mut PlainCpu, key: Key) -> Result<Seen, Refusal>
+    requires words { AreWordsOf words.now cpu.old.words.table cpu.old.words.settings }
+    requires inside { cpu.old.cpu.view.begin ≢ None }
+    ensures looks { LooksInside key cpu.old.cpu cpu.new.cpu (looked_up key result) }
+    ensures slot { IfOk result (λ seen. seen.slot < MOST_SLOTS) }
+    ensures inside { cpu.new.cpu.view.begin ≡ cpu.old.cpu.view.begin }
+    ensures words { cpu.new.words ≡ cpu.old.words }
+{
+    let seen = find_inside_on(words, cpu, key.kind, key.name);
+    found_or(key, seen)
+}
+
+/// Enters a section, or the open one once more, and looks an entry up in it. Returns its words: it is the last found entry then, and the CPU stays
+/// inside. Where this fails the CPU is as deep inside as before.
+/// Refused: `TooDeep`, `SectionsSpent`, as `enter`, and nothing has changed; `NotFound`. Condition: the words are the CPU's table's.
+#[inline(always)]
+pub fn enter_find_in(words: &Words, cpu: &mut PlainCpu, key: Key) -> Result<Seen, Refusal>
+    requires words { AreWordsOf words.now cpu.old.words.table cpu.old.words.settings }
+    ensures finds { EntersAndFinds key cpu.old.cpu cpu.new.cpu (looked_up key result) }
+    ensures slot { IfOk result (λ seen. seen.slot < MOST_SLOTS) }
+    ensures words { cpu.new.words ≡ cpu.old.words }
+{
+    if may_begin_on(words, cpu) {
+        return enter_and_find(words, cpu, key);
+    }
+    enter_find_nested(words, cpu, key)
+}
+
+/// The same where it may begin no section. It stands apart, so that from outside nothing is tested twice.
+#[inline(never)]
+fn enter_find_nested(words: &Words, cpu: &mut PlainCpu, key: Key) -> Result<Seen, Refusal>
+    requires words { AreWordsOf words.now cpu.old.words.table cpu.old.words.settings }
+    ensures finds { EntersAndFinds key cpu.old.cpu cpu.new.cpu (looked_up key result) }
+    ensures slot { IfOk result (λ seen. seen.slot < MOST_SLOTS) }
+    ensures words { cpu.new.words ≡ cpu.old.words }
+{
+    enter_and_find(words, cpu, key)
+}
+
+/// An enter and a find, and an exit where it found nothing.
+#[inline(always)]
+fn enter_and_find(words: &Words, cpu: &mut PlainCpu, key: Key) -> Result<Seen, Refusal>
+    requires words { AreWordsOf words.now cpu.old.words.table cpu.old.words.settings }
+    ensures finds { EntersAndFinds key cpu.old.cpu cpu.new.cpu (looked_up key result) }
+    ensures slot { IfOk result (λ seen. seen.slot < MOST_SLOTS) }
+    ensures words { cpu.new.words ≡ cpu.old.words }
+{
+    enter_on(words, cpu)?;
+    match find_in(words, cpu, key) {
+        Ok(seen) => Ok(seen),
+        Err(refusal) => {
+            exit_on(words, cpu);
+            Err(refusal)
+        }
+    }
+}
+
+/// `Registry::get` on a CPU that names its own table. Returns the words of the entry. Condition: the words are its table's.
+#[inline(always)]
+pub fn get_in(words: &Words, cpu: &mut PlainCpu, key: Key) -> Result<(Seen, Psref), Refusal>
+    requires words { AreWordsOf words.now cpu.old.words.table cpu.old.words.settings }
+    ensures gets { Gets key cpu.old.cpu cpu.new.cpu (got_of key result) }
+    ensures slot { IfOk result (λ got. got.0.slot < MOST_SLOTS) }
+    ensures words { cpu.new.words ≡ cpu.old.words }
+{
+    if !may_begin_on(words, cpu) {
+        return get_nested(words, cpu, key);
+    }
+    if let Some(got) = get_by_memory(words, cpu, key.kind, key.name) {
+        return Ok(got);
+    }
+    get_anew(words, cpu, key)
+}
+
+/// A get where it may begin no section. It stands apart, as `look_up_nested`.
+#[inline(never)]
+fn get_nested(words: &Words, cpu: &mut PlainCpu, key: Key) -> Result<(Seen, Psref), Refusal>
+    requires words { AreWordsOf words.now cpu.old.words.table cpu.old.words.settings }
+    requires not { MayBegin cpu.old.cpu → ⊥ }
+    ensures gets { Gets key cpu.old.cpu cpu.new.cpu (got_of key result) }
+    ensures slot { IfOk result (λ got. got.0.slot < MOST_SLOTS) }
+    ensures words { cpu.new.words ≡ cpu.old.words }
+{
+    if cpu.depth == 0 {
+        return Err(Refusal::SectionsSpent);
+    }
+    find_and_acquire(words, cpu, key)
 }
 
 /// Looks an entry up, and acquires a reference to it, if there is one. Conditions: outside; a section is left.
 #[inline(never)]
-fn get_anew<D: Domain>(
-    words: &Words,
-    cpu: &mut Cpu<D>,
-    kind: Kind,
-    name: &Name,
-) -> Result<(Entry, Psref), Refusal>
-    requires words { AreWordsOf words.now D.table D.settings }
-    requires outside { cpu.old.depth ≡ 0 }
-    requires room { IsTrue (may_begin cpu.old.view) }
-    ensures { GetsAnew (key_with kind name.now) cpu.old cpu.new result }
+fn get_anew(words: &Words, cpu: &mut PlainCpu, key: Key) -> Result<(Seen, Psref), Refusal>
+    requires words { AreWordsOf words.now cpu.old.words.table cpu.old.words.settings }
+    requires outside { cpu.old.cpu.depth ≡ 0 }
+    requires room { IsTrue (may_begin cpu.old.cpu.view) }
+    ensures gets { GetsAnew key cpu.old.cpu cpu.new.cpu (got_of key result) }
+    ensures slot { IfOk result (λ got. got.0.slot < MOST_SLOTS) }
+    ensures words { cpu.new.words ≡ cpu.old.words }
 {
-    if find_remembered(words, cpu, kind, name).is_none() {
+    if find_by_memory(words, cpu, key.kind, key.name).is_none() {
         return Err(Refusal::NotFound);
     }
-    get_found(words, cpu, kind, name)
+    get_found(words, cpu, key)
 }
 
 /// Acquires a reference to the entry that the CPU remembers, else in a section.
-fn get_found<D: Domain>(
-    words: &Words,
-    cpu: &mut Cpu<D>,
-    kind: Kind,
-    name: &Name,
-) -> Result<(Entry, Psref), Refusal>
-    requires words { AreWordsOf words.now D.table D.settings }
-    ensures { GetsFound (key_with kind name.now) cpu.old cpu.new result }
+fn get_found(words: &Words, cpu: &mut PlainCpu, key: Key) -> Result<(Seen, Psref), Refusal>
+    requires words { AreWordsOf words.now cpu.old.words.table cpu.old.words.settings }
+    ensures gets { GetsFound key cpu.old.cpu cpu.new.cpu (got_of key result) }
+    ensures slot { IfOk result (λ got. got.0.slot < MOST_SLOTS) }
+    ensures words { cpu.new.words ≡ cpu.old.words }
 {
-    if let Some(got) = get_remembered(words, cpu, kind, name) {
+    if let Some(got) = get_by_memory(words, cpu, key.kind, key.name) {
         return Ok(got);
     }
-    get_in_section(words, cpu, kind, name)
+    get_in_section(words, cpu, key)
 }
 
-/// Looks an entry up and acquires a reference to it in a section.
+/// Looks an entry up and acquires a reference to it, in a section.
 #[inline(never)]
-fn get_in_section<D: Domain>(
-    words: &Words,
-    cpu: &mut Cpu<D>,
-    kind: Kind,
-    name: &Name,
-) -> Result<(Entry, Psref), Refusal>
-    requires words { AreWordsOf words.now D.table D.settings }
-    ensures { GetsInSection (key_with kind name.now) cpu.old cpu.new result }
+fn get_in_section(words: &Words, cpu: &mut PlainCpu, key: Key) -> Result<(Seen, Psref), Refusal>
+    requires words { AreWordsOf words.now cpu.old.words.table cpu.old.words.settings }
+    ensures gets { GetsInSection key cpu.old.cpu cpu.new.cpu (got_of key result) }
+    ensures slot { IfOk result (λ got. got.0.slot < MOST_SLOTS) }
+    ensures words { cpu.new.words ≡ cpu.old.words }
 {
-    enter(words, cpu)?;
-    let got = find_and_acquire(words, cpu, kind, name);
-    exit(words, cpu);
+    enter_on(words, cpu)?;
+    let got = find_and_acquire(words, cpu, key);
+    exit_on(words, cpu);
     got
 }
 
 /// Looks an entry up in the open section, and acquires a reference to it.
-fn find_and_acquire<D: Domain>(
-    words: &Words,
-    cpu: &mut Cpu<D>,
-    kind: Kind,
-    name: &Name,
-) -> Result<(Entry, Psref), Refusal>
-    requires words { AreWordsOf words.now D.table D.settings }
-    requires inside { cpu.old.view.begin ≢ None }
-    ensures { FindsAndAcquires (key_with kind name.now) cpu.old cpu.new result }
+fn find_and_acquire(words: &Words, cpu: &mut PlainCpu, key: Key) -> Result<(Seen, Psref), Refusal>
+    requires words { AreWordsOf words.now cpu.old.words.table cpu.old.words.settings }
+    requires inside { cpu.old.cpu.view.begin ≢ None }
+    ensures gets { FindsAndAcquires key cpu.old.cpu cpu.new.cpu (got_of key result) }
+    ensures slot { IfOk result (λ got. got.0.slot < MOST_SLOTS) }
+    ensures inside { cpu.new.cpu.view.begin ≡ cpu.old.cpu.view.begin }
+    ensures words { cpu.new.words ≡ cpu.old.words }
 {
-    let entry = found_or(find_inside(words, cpu, kind, name))?;
-    let psref = acquire(words, cpu)?;
-    Ok((entry, psref))
+    let seen = find_in(words, cpu, key)?;
+    let psref = acquire_on(words, cpu)?;
+    Ok((seen, psref))
 }
 
 /// The result of a lookup that found so.
 #[inline(always)]
-fn found_or(found: Option<Entry>) -> Result<Entry, Refusal>
-    ensures { result ≡ found_or found }
+fn found_or(key: Key, seen: Option<Seen>) -> Result<Seen, Refusal>
+    requires slot { IfSome seen (λ seen. seen.slot < MOST_SLOTS) }
+    ensures is { looked_up key result ≡ found_or (entry_seen key seen) }
+    ensures slot { IfOk result (λ seen. seen.slot < MOST_SLOTS) }
 {
-    found.ok_or(Refusal::NotFound)
+    // The contract alone speaks of the key.
+    let _key = key;
+    seen.ok_or(Refusal::NotFound)
+}
+
+/// The entry of these words.
+#[inline(always)]
+fn entry_of(key: Key, seen: Seen) -> Entry
+    requires slot { seen.slot < MOST_SLOTS }
+    ensures { result ≡ entry_with key seen.slot seen.number seen.value }
+{
+    let rec = Record {
+        kind: key.kind,
+        name: key.name,
+        value: seen.value,
+    };
+    Entry {
+        number: seen.number,
+        slot: seen.slot as u8,
+        rec,
+    }
+}
+
+/// A lookup's result with the entry in place of its words.
+#[inline(always)]
+fn with_entry(key: Key, looked: Result<Seen, Refusal>) -> Result<Entry, Refusal>
+    requires slot { IfOk looked (λ seen. seen.slot < MOST_SLOTS) }
+    ensures { result ≡ looked_up key looked }
+{
+    match looked {
+        Ok(seen) => Ok(entry_of(key, seen)),
+        Err(refusal) => Err(refusal),
+    }
+}
+
+/// The same of a get.
+#[inline(always)]
+fn with_entry_got(key: Key, got: Result<(Seen, Psref), Refusal>) -> Result<(Entry, Psref), Refusal>
+    requires slot { IfOk got (λ got. got.0.slot < MOST_SLOTS) }
+    ensures { result ≡ got_of key got }
+{
+    match got {
+        Ok((seen, psref)) => Ok((entry_of(key, seen), psref)),
+        Err(refusal) => Err(refusal),
+    }
 }

@@ -2,7 +2,7 @@
 
 ghost use Rattle.std.specs.Prelude.{◌≡◌, ◌≤◌, IfOk, IfErr, false};
 ghost use Rattle.name_registry.specs.Locking.{IsPerformRefusal, is_inside, HasLearned};
-ghost use Rattle.name_registry.specs.Performing.{HasSeenAllOut, Performs, PerformsOutside, WaitsFor, none_seen};
+ghost use Rattle.name_registry.specs.Performing.{HasSeenAllOut, HaveAllEnded, Performs, PerformsOutside, WaitsFor, none_seen};
 
 use crate::glancing::{begin, glance_at_all, pass_all};
 use crate::registry::{Locked, Registry};
@@ -34,6 +34,7 @@ impl<D: Domain> Registry<D> {
         ensures done { IfOk result (λ _. is_inside cpu.old ≡ false) }
         ensures refused { IfErr result (λ refusal. IsPerformRefusal D.settings (is_inside cpu.old) refusal) }
         ensures waited { IfOk result (λ _. HasSeenAllOut D.settings.cpus cpu.old cpu.new) }
+        ensures ended { IfOk result (λ _. HaveAllEnded D.settings cpu.old cpu.new) }
         ensures made { PerformsOutside D.settings turns (is_inside cpu.old) cpu.old result cpu.new }
         ensures learned { HasLearned cpu.old cpu.new × (cpu.new.made ≡ cpu.old.made) }
     {
@@ -51,20 +52,22 @@ trait UnderInterlock<D: Domain> {
     ghost use Rattle.std.specs.Prelude.{ℕ, List, Option, Bool};
     ghost use Rattle.passive_list.specs.Common.{OnCpu};
 
-    // of the CPU before: the snapshots, the numbers, and the CPU after
-    ghost begins: { OnCpu → List ℕ → List (Option ℕ) → OnCpu → Type 0 };
+    // of the CPU before: the snapshots, the numbers of the retired entries, and the CPU after
+    ghost begins: { OnCpu → List ℕ → List ℕ → OnCpu → Type 0 };
     // of the snapshots, the CPU before and who was seen: the answer, who is seen then, and the CPU after
     ghost glances: { List ℕ → OnCpu → List Bool → Option ℕ → List Bool → OnCpu → Type 0 };
 
-    ghost passes: { OnCpu → List (Option ℕ) → OnCpu → Type 0 };
+    ghost passes: { OnCpu → List ℕ → OnCpu → Type 0 };
 
-    /// The section word of each CPU, and the number of each retired entry, slot by slot.
+    /// Writes the section word of each CPU, and of each slot the number of its retired entry, or 0.
     fn begin<R: Wait>(
         &mut self,
         rt: &R,
         cpu: &mut Cpu<D>,
-    ) -> ([u64; MOST_CPUS], [Option<u64>; MOST_SLOTS])
-        ensures { begins cpu.old result.0 result.1 cpu.new };
+        snapshots: &mut [u64; MOST_CPUS],
+        retired: &mut [u64; MOST_SLOTS],
+    )
+        ensures { begins cpu.old snapshots.new retired.new cpu.new };
 
     /// One turn: a glance at each CPU that wasn't seen yet. Returns the lowest-numbered that still wasn't.
     fn glance<R: Wait>(
@@ -77,8 +80,8 @@ trait UnderInterlock<D: Domain> {
         ensures { glances snapshots.now cpu.old seen.old result seen.new cpu.new };
 
     /// Looks at each CPU for the retired entries with these numbers.
-    fn pass<R: Wait>(&mut self, rt: &R, cpu: &mut Cpu<D>, numbers: &[Option<u64>; MOST_SLOTS])
-        ensures { passes cpu.old numbers.now cpu.new };
+    fn pass<R: Wait>(&mut self, rt: &R, cpu: &mut Cpu<D>, retired: &[u64; MOST_SLOTS])
+        ensures { passes cpu.old retired.now cpu.new };
 }
 
 /// Begins, waits for at most `turns` turns, and passes what was retired as it began. Returns the lowest-numbered CPU that wasn't seen out
@@ -92,7 +95,9 @@ fn perform_in_turns<D: Domain, I: UnderInterlock<D>, R: Wait>(
     requires { 1 ≤ turns }
     ensures { Performs I.begins I.glances I.passes turns cpu.old result cpu.new }
 {
-    let (snapshots, retired) = interlock.begin(rt, cpu);
+    let mut snapshots = [0; MOST_CPUS];
+    let mut retired = [0; MOST_SLOTS];
+    interlock.begin(rt, cpu, &mut snapshots, &mut retired);
     let told = wait_for_sections(rt, interlock, cpu, &snapshots, turns);
     if told.is_none() {
         interlock.pass(rt, cpu, &retired);
@@ -138,12 +143,17 @@ impl<'a, D: Domain> UnderInterlock<D> for Locked<'a, D> {
         &mut self,
         rt: &R,
         cpu: &mut Cpu<D>,
-    ) -> ([u64; MOST_CPUS], [Option<u64>; MOST_SLOTS]) {
+        snapshots: &mut [u64; MOST_CPUS],
+        retired: &mut [u64; MOST_SLOTS],
+    ) {
+        let keeper = &mut self.registry.interlock.lock(rt).keeper;
         begin(
             &self.registry.words,
-            &mut self.registry.interlock.lock(rt).keeper,
+            keeper,
             &mut cpu.plain,
-        )
+            snapshots,
+            retired,
+        );
     }
 
     #[tactic(auto, using(crate::proofs::Counted::glanced, passive_list::proofs::Sharing::shared, passive_list::proofs::Sharing::sharing))]
@@ -164,8 +174,8 @@ impl<'a, D: Domain> UnderInterlock<D> for Locked<'a, D> {
         )
     }
 
-    fn pass<R: Wait>(&mut self, rt: &R, cpu: &mut Cpu<D>, numbers: &[Option<u64>; MOST_SLOTS]) {
+    fn pass<R: Wait>(&mut self, rt: &R, cpu: &mut Cpu<D>, retired: &[u64; MOST_SLOTS]) {
         let keeper = &mut self.registry.interlock.lock(rt).keeper;
-        pass_all(&self.registry.words, keeper, &mut cpu.plain, numbers);
+        pass_all(&self.registry.words, keeper, &mut cpu.plain, retired);
     }
 }

@@ -2,12 +2,11 @@
 
 ghost use Rattle.std.specs.Prelude.{◌≡◌, ◌↔◌, ◌⊎◌, ◌+ℤ◌, ◌≤◌, All, IfOk, IfErr, IsErrOf, IsTrue, false, length};
 ghost use Rattle.registry_values.specs.Common.{sum_of, is_key, is_iface};
-ghost use Rattle.name_registry.specs.Types.{Attach, Detach, Iface, MOST_CPUS};
+ghost use Rattle.name_registry.specs.Types.{Attach, Detach, Driver, Iface, MOST_CPUS};
 ghost use Rattle.cpu_words.specs.Common.{IsAttachedKeeping, AreWordsOf};
 ghost use Rattle.name_registry.specs.Auditing.{AreAllCpus, HaveHeardAndTold, HaveLearned, IsAuditBy, KnowTheSame};
-ghost use Rattle.name_registry.specs.Changes.{HasMade};
-ghost use Rattle.name_registry.specs.Destroying.{SomeAdvanced};
-ghost use Rattle.name_registry.specs.Locking.{MayAttach, IsAttachRefusal, IsDetachRefusedTo, IsStageOf, is_inside, HasLearned, HasSeenAttach, HasSeenDetach};
+ghost use Rattle.name_registry.specs.Changes.{AreReplaced, HasMade, HasMadeReplace};
+ghost use Rattle.name_registry.specs.Locking.{MayAttach, IsAttachRefusal, IsDetachRefusedTo, IsReplaceRefusedTo, IsStageOf, is_inside, HasLearned, HasSeenAttach, HasSeenDetach, HasSeenReplace};
 
 use crate::advancing::advance_in;
 use crate::auditing::audit_in;
@@ -95,17 +94,59 @@ impl<D: Domain> Registry<D> {
         self.interlock.lock(rt).detach(&self.words, cpu, kind, name)
     }
 
+    /// Puts another driver in the place of the live one with this name under the interlock, as `replace_in` does, and returns both, the old
+    /// one first. No lookup of the name finds nothing because of it. The caller's CPU has seen the change then, and its share tells that this
+    /// one was made, and no other. The old one is retired, and is to be destroyed.
+    /// Refused, in this order, and nothing has changed then: `Inside` if the CPU is inside a section; `NotFound` if no live driver has the name;
+    /// `NoSlot`; `HistoryFull`.
+    pub fn replace<R: Wait>(
+        &self,
+        rt: &R,
+        cpu: &mut Cpu<D>,
+        name: &Name,
+        value: u64,
+    ) -> Result<(Entry, Entry), Refusal>
+        ensures may { IfOk result (λ _. is_inside cpu.old ≡ false) }
+        ensures ok { IfOk result (λ p. AreReplaced (record { kind = Driver; name = name.now }) value p × HasLearned cpu.old cpu.new × HasSeenReplace cpu.old cpu.new p.0 p.1) }
+        ensures made { IfOk result (λ p. HasMadeReplace cpu.old p.0 p.1 cpu.new) }
+        ensures refused { IfErr result (λ refusal. IsReplaceRefusedTo (is_inside cpu.old) false refusal × (cpu.new ≡ cpu.old)) }
+    {
+        let interlock = &mut self.interlock.lock(rt);
+        interlock.replace(&self.words, cpu, name, value)
+    }
+
+    /// Puts another interface, on the driver that the reference is to, in the place of the live one with this name under the interlock, as
+    /// `replace_iface_in` does. The old one's slot keeps its own driver. Else it is as `replace`.
+    /// Refused, in this order, and nothing has changed then, and the reference comes back: `Inside` if the CPU is inside a section;
+    /// `NeedsDriver` if the reference is to an interface; `NotFound`; `NoSlot`; `HistoryFull`.
+    pub fn replace_iface<R: Wait>(
+        &self,
+        rt: &R,
+        cpu: &mut Cpu<D>,
+        name: &Name,
+        value: u64,
+        reference: LocalRef<D>,
+    ) -> Result<(Entry, Entry), (Refusal, LocalRef<D>)>
+        ensures may { IfOk result (λ _. MayAttach (is_inside cpu.old) (is_iface reference.entry.rec.kind)) }
+        ensures ok { IfOk result (λ p. AreReplaced (record { kind = Iface; name = name.now }) value p × HasLearned cpu.old cpu.new × HasSeenReplace cpu.old cpu.new p.0 p.1) }
+        ensures made { IfOk result (λ p. HasMadeReplace cpu.old p.0 p.1 cpu.new) }
+        ensures keeping { IfOk result (λ p. IsAttachedKeeping p.1.slot p.1.number reference.entry.number cpu.new.known_log) }
+        ensures refused { IfErr result (λ back. IsReplaceRefusedTo (is_inside cpu.old) (is_iface reference.entry.rec.kind) back.0 × (back.1 ≡ reference) × (cpu.new ≡ cpu.old)) }
+    {
+        let interlock = &mut self.interlock.lock(rt);
+        interlock.replace_iface(&self.words, cpu, name, value, reference)
+    }
+
     /// Makes one turn of the work on the retired entry `number` under the interlock, as `advance_in` does. It returns the first obstacle, or
     /// `Freed` with the slot that is vacant again.
     ///
-    /// It has no CPU that could learn what the keeper did. So its contract says what some keeper would return (`made`), and no more. `destroy` with
-    /// one turn makes the same turn for a CPU, whose contract says that nothing holds the entry after `Freed`.
+    /// It has no CPU that could learn what the keeper did, so its contract says no more than which results there are. `destroy` with one turn makes
+    /// the same turn for a CPU, whose contract says that nothing holds the entry after `Freed`.
     ///
     /// Refused: `NotRetired` if no slot has the retired entry `number`; nothing has changed then.
     pub fn advance<R: Wait>(&self, rt: &R, number: u64) -> Result<Stage, Refusal>
         ensures ok { IfOk result (λ stage. IsStageOf D.settings stage) }
         ensures refused { IfErr result (λ refusal. refusal ≡ Refusal.NotRetired) }
-        ensures made { SomeAdvanced D.settings number result }
     {
         advance_in(&self.words, &mut self.interlock.lock(rt).keeper, number)
     }

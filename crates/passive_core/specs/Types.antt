@@ -17,7 +17,7 @@ pub use Rattle.registry_values.specs.declared.stage.Stage.{Stage}
 pub use Rattle.registry_values.specs.declared.stage.Stage.TheVariants.{Freed, Grace, Local, Passive}
 pub use Rattle.protocol.specs.declared.event.Event.{Event}
 pub use Rattle.protocol.specs.declared.event.Event.TheVariants.{Collect, CountAdd, CountDown, Enter, Exit, Hear, JoinKeeper, JoinRef, Keep, KeptSub, LoadLink, LoadRecord, Look, PassiveAdd}
-pub use Rattle.protocol.specs.declared.event.Event.TheVariants.{PassiveLook, PassiveSub, Publish, Seat, Seek, Snapshot, SplitBack, SplitRef, StoreNext, StoreSlot, Tell, TotalAdd, TotalSub, Unpublish}
+pub use Rattle.protocol.specs.declared.event.Event.TheVariants.{PassiveLook, PassiveSub, Publish, Republish, Seat, Seek, Snapshot, SplitBack, SplitRef, StoreNext, StoreSlot, Tell, TotalAdd, TotalSub, Unpublish}
 pub use Rattle.protocol.specs.declared.event.Event.TheVariants.{Confirm, Hide, Recall, RecallHead, Refind, Show, TakeBack, Try, Vacate}
 pub use Rattle.protocol.specs.declared.event.RecordOf.{RecordOf}
 pub use Rattle.protocol.specs.declared.event.Reply.{Reply}

@@ -7,14 +7,14 @@ use Rattle.std.specs.List.{Contains}
 use Rattle.std.proofs.lemmas.Bool.{ltb-true}
 use mathlib.Core.List.{IsPrefix}
 use Rattle.atomic_table.specs.Seated.{TableId}
-use Rattle.passive_list.specs.Types.{Entry, Change, Attach, Settings, CpuView, Key, MOST_SLOTS, Search, Enter, Done, Cpu, Exit}
+use Rattle.passive_list.specs.Types.{Entry, Change, Settings, CpuView, Key, MOST_SLOTS, Search, Enter, Done, Cpu, Exit}
 use Rattle.registry_values.specs.Common.{are_fit, bias}
 use Rattle.registry_values.proofs.Fit.{ranges}
 use Rattle.registry_values.proofs.Answers.{same_test}
 use Rattle.protocol.specs.Common.{IsAttached}
 use Rattle.protocol.proofs.Cells.{get_or_all}
 use Rattle.protocol.proofs.Occupied.{in_within}
-use Rattle.protocol.proofs.History.{at_within}
+use Rattle.protocol.proofs.History.{attached_within}
 use Rattle.cpu_words.specs.Common.{IsShownCpu, number_at, references_to, depth_of, new_cpu, HasEntered, HasExited, did, SeatMakes, Seated, MaySeek, IsIdle, MayExit}
 use Rattle.cpu_words.proofs.seats.Seating.{found_is_in, new_cpu_is_shown, entered_whole, step_is_shown}
 use Rattle.cpu_words.proofs.shown.Seeing.{attached_prefix, seen_of}
@@ -185,7 +185,7 @@ found_none x k shown kept none = by_cases x.found kept refl
   where
     by_cases : (f : Option Entry) → IsKept k f → x.found ≡ f → x.found ≡ None
     by_cases None kept is = is
-    by_cases (Some e) kept is = absurd (omega (arith, kept.0, (at_within x.pass e.number (Attach e) (shown.shown.found e is)).0, none))
+    by_cases (Some e) kept is = absurd (omega (arith, kept.0, (attached_within x.pass e (shown.shown.found e is)).0, none))
 
 -- outside there is none
 pub none_outside : (x : CpuView) → IsShownCpu x → x.begin ≡ None → x.found ≡ None

@@ -4,18 +4,18 @@ use Rattle.std.proofs.lemmas.Bool.{eq-eqb, ne_eqb, cases_lt, eqb-true, false≢t
 use Rattle.std.proofs.lemmas.List.{append-nil}
 use Rattle.std.specs.Prelude.{is_some}
 use mathlib.Core.List.{IsPrefix}
-use Rattle.passive_list.specs.Types.{Entry, Event, Key, MOST_SLOTS, Recall, RecallHead, Refind, Settings, Word, CpuView, LogItem, Attach, Change}
+use Rattle.passive_list.specs.Types.{Entry, Event, Key, MOST_SLOTS, Recall, RecallHead, Refind, Settings, Word, CpuView, LogItem, Change}
 use Rattle.registry_values.specs.Common.{are_fit, key_of}
 use Rattle.registry_values.proofs.Fit.{ranges}
-use Rattle.protocol.specs.Common.{IsAttached, entry_with, EndsAt, IsLegal, IsLiveAt, IsLookup}
-use Rattle.protocol.specs.History.{change_at}
-use Rattle.protocol.proofs.History.{at_within, live_down, one_live}
+use Rattle.protocol.specs.Common.{IsAttached, entry_with, EndsAt, IsLegal, IsLiveAt, IsLookup, brought_by}
+use Rattle.protocol.specs.History.{change_at, rank_at}
+use Rattle.protocol.proofs.History.{IsGone, Stood, live_down, one_live, attached_within, rank_low, stands_on, stood}
 use Rattle.cpu_words.specs.Common.{did, event_by, HasRecalled, HasRecalledHead, HasRefound, HasWholePass, MayRefind, Named}
 use Rattle.cpu_words.proofs.shown.Seeing.{attached_prefix}
-use Rattle.passive_list.specs.Common.{HasRecalledHeadOn, HasRecalledOn, HasRefoundAs, HasSeen, OnCpu, OnPlainCpu, Seen, Memory, Missed, HasFoundFromOutside, HasNumbered, HasRefoundOn, WasAbsent, entry_seen, may_begin, IsMiss, IsTrueMiss, Misses, miss_of, with_miss, FindsAndRemembers, FindsWhatStays, HasFoundAnew, HasFoundInSection, HasFoundByMemory, HasRecalledAs, HasRecalledByMemory, RecallsBy, IsAbsentAt, FindsAfterHead, RecallsSeen, RefindsSeen, RemembersAnswer}
+use Rattle.passive_list.specs.Common.{HasRecalledHeadOn, HasRecalledOn, HasRefoundAs, HasSeen, OnCpu, OnPlainCpu, Seen, Memory, Missed, HasFound, HasFoundFromOutside, HasFoundKept, FindsInside, Recalls, HasNumbered, HasRefoundOn, WasAbsent, entry_seen, may_begin, IsMiss, IsTrueMiss, Misses, miss_of, with_miss, FindsAndRemembers, FindsWhatIsKept, FindsWhatStays, HasFoundAnew, HasFoundInSection, HasFoundByMemory, HasRecalledAs, HasRecalledByMemory, RecallsBy, IsAbsentAt, FindsAfterHead, RecallsSeen, RefindsSeen, RemembersAnswer}
 use Rattle.passive_list.specs.declared.memory.Miss.{Miss}
 use Rattle.passive_list.proofs.Memories.{numbered_longer}
-use Rattle.passive_list.proofs.Walking.{ends_later, live_before, prefix_length, prefix_trans}
+use Rattle.passive_list.proofs.Walking.{ends_later, live_before, live_longer, prefix_length, prefix_trans}
 
 -- A recall, of an entry or of the head, and an entry found again, by the CPU that names its own table.
 
@@ -154,7 +154,7 @@ pub recalled_stays : (key : Key) (a b : OnCpu) (e : Entry) → HasRecalledAs key
 recalled_stays key a b e had f attached same unended =
     let g = b.view.pass in
     let here = attached_prefix a.view.pass g f had.pass attached in
-    same_answer g (length g) key (Some e) f (whole_legal b.view had.whole) had.answered (live_still g f here unended (length g) (at_within g f.number (Attach f) here).1) same
+    same_answer g (length g) key (Some e) f (whole_legal b.view had.whole) had.answered (live_still g f here unended (length g) (attached_within g f here).1) same
 
 -- in a section
 pub found_stays : (key : Key) (h : List Change) (a b : OnCpu) (answer : Option Entry) → HasFoundFromOutside key a b answer → a.depth ≡ 0 → IsPrefix h a.view.pass → FindsWhatStays key h b.view.pass answer
@@ -166,16 +166,41 @@ found_stays key h a b answer had outside longer f attached same unended =
     let to_first = prefix_trans h a.view.pass had.first.view.pass longer entered in
     let first : IsAttached had.first.view.pass f = attached_prefix h had.first.view.pass f to_first attached in
     let here : IsAttached g f = attached_prefix had.first.view.pass g f had.finds.pass first in
-    let begun = (at_within had.first.view.pass f.number (Attach f) first).1 in
+    let begun = (attached_within had.first.view.pass f first).1 in
     let live = live_still g f here (λ q ends. unended q (subst (λ (i : List Change). EndsAt i f.number q) (sym left) ends)) p.point (omega (arith, begun, p.from_on)) in
     same_answer g p.point key answer f had.finds.legal p.answered live same
+
+-- in the open section
+stays_inside : (key : Key) (a b : OnCpu) (answer : Option Entry) (h : List Change) → HasFound key a b answer → IsPrefix h a.view.pass → FindsWhatStays key h b.view.pass answer
+stays_inside key a b answer h had longer f attached same unended =
+    let g = b.view.pass in
+    let p = had.lawful in
+    let first : IsAttached a.view.pass f = attached_prefix h a.view.pass f longer attached in
+    let here : IsAttached g f = attached_prefix a.view.pass g f had.pass first in
+    let live = live_still g f here unended p.point (omega (arith, (attached_within a.view.pass f first).1, p.from_on)) in
+    same_answer g p.point key answer f had.legal p.answered live same
+
+refound_stays : (key : Key) (a b : OnCpu) (e : Entry) → HasRefoundAs key a b e → FindsWhatStays key a.view.pass b.view.pass (Some e)
+refound_stays key a b e had f attached same unended =
+    let g = b.view.pass in
+    let here = attached_prefix a.view.pass g f had.pass attached in
+    same_answer g (length g) key (Some e) f (whole_legal b.view had.whole) had.answered (live_still g f here unended (length g) (attached_within g f here).1) same
+
+kept_stays : (key : Key) (a b : OnCpu) (answer : Option Seen) (h : List Change) → HasFoundKept key a b answer → IsPrefix h a.view.pass → FindsWhatStays key h b.view.pass (entry_seen key answer)
+kept_stays key a b answer h had longer =
+    subst (λ (x : OnCpu). FindsWhatStays key h x.view.pass (entry_seen key answer)) (sym had.is) (stays_inside key a had.left (entry_seen key answer) h had.finds longer)
+
+pub inside_stays : (key : Key) (a b : OnCpu) (answer : Option Seen) → FindsInside key a b answer → FindsWhatStays key a.view.pass b.view.pass (entry_seen key answer)
+inside_stays key a b answer (None, at, had) = kept_stays key a b answer a.view.pass had ([], append-nil a.view.pass)
+inside_stays key a b answer (Some s, at, inl had) = subst (λ (o : Option Seen). FindsWhatStays key a.view.pass b.view.pass (entry_seen key o)) (sym had.0) (refound_stays key a b (entry_with key s.slot s.number s.value) had.1)
+inside_stays key a b answer (Some s, at, inr (c, vain, had)) = kept_stays key c b answer a.view.pass had vain.pass
 
 -- at the load of the head
 absent_stays : (key : Key) (h g : List Change) (c : OnCpu) (answer : Option Seen) → IsAbsentAt key c answer → IsPrefix h c.view.pass → IsPrefix c.view.pass g → FindsWhatStays key h g (entry_seen key answer)
 absent_stays key h g c answer had before after f attached same unended =
     let i = c.view.pass in
     let here = attached_prefix h i f before attached in
-    absurd (had.answered f (live_still i f here (λ p ends. unended p (ends_later i g f.number p after ends)) (length i) (at_within i f.number (Attach f) here).1) same)
+    absurd (had.answered f (live_still i f here (λ p ends. unended p (ends_later i g f.number p after ends)) (length i) (attached_within i f here).1) same)
 
 head_stays : (w : ℕ) (key : Key) (h : List Change) (c b : OnCpu) (answer : Option Seen) → FindsAfterHead w key c b answer → c.depth ≡ 0 → IsPrefix h c.view.pass → FindsWhatStays key h b.view.pass (entry_seen key answer)
 head_stays w key h c b answer (inl had) outside longer =
@@ -192,25 +217,108 @@ anew_stays key h a b answer had outside longer =
     let c = had.at_head in
     head_stays had.head key h c b answer had.finds (ap (λ (x : OnCpu). x.depth) had.heads.is ∙ outside) (prefix_trans h a.view.pass c.view.pass longer had.heads.pass)
 
+-- What is kept is found
+
+-- where the answer is that there is none, that is so at a point since the end of h
+abbrev MissedSince : Key → List Change → List Change → Option Entry → Type 0
+MissedSince key h g answer = answer ≡ None → (k : ℕ) × (length h ≤ k) × (k ≤ length g) × IsLookup g k key None
+
+kept_from : (key : Key) (h g : List Change) (answer : Option Entry) → IsLegal g → IsPrefix h g → MissedSince key h g answer → FindsWhatIsKept key h g answer
+kept_from key h g answer legal pre missed e live same kept none =
+    let at = missed none in
+    ⊎_elim
+    (λ (on : Stood g at.0 e). at.3 on.entry on.live (on.key ∙ same))
+    (λ (gone : IsGone g (length h) at.0 (key_of e)). kept gone.position gone.entry gone.later (omega (arith, gone.by_then, at.2)) gone.detach gone.attached (gone.same ∙ same))
+    (stands_on g legal (length h) at.0 e (live_longer h g (length h) e pre (omega arith) live) at.1)
+
+-- by one load
+recalled_kept : (key : Key) (h g : List Change) (e : Entry) → FindsWhatIsKept key h g (Some e)
+recalled_kept key h g e f live same kept none = let clash : ◌≡◌ {A = Option Entry} (Some e) None = none in cc
+
+-- in a section
+found_kept : (key : Key) (h : List Change) (a b : OnCpu) (answer : Option Entry) → HasFoundFromOutside key a b answer → a.depth ≡ 0 → IsPrefix h a.view.pass → FindsWhatIsKept key h b.view.pass answer
+found_kept key h a b answer had outside longer =
+    let g = had.last.view.pass in
+    let p = had.finds.lawful in
+    let to_first = prefix_trans h a.view.pass had.first.view.pass longer (had.enters.begun outside).0 in
+    subst (λ (i : List Change). FindsWhatIsKept key h i answer) (sym (left_pass key a b answer had outside))
+    (kept_from key h g answer had.finds.legal (prefix_trans h had.first.view.pass g to_first had.finds.pass)
+    (λ none. (p.point, omega (arith, prefix_length h had.first.view.pass to_first, p.from_on), p.up_to, subst (IsLookup g p.point key) none p.answered)))
+
+-- in the open section
+kept_inside : (key : Key) (h : List Change) (a b : OnCpu) (answer : Option Entry) → HasFound key a b answer → IsPrefix h a.view.pass → FindsWhatIsKept key h b.view.pass answer
+kept_inside key h a b answer had longer =
+    let g = b.view.pass in
+    let p = had.lawful in
+    kept_from key h g answer had.legal (prefix_trans h a.view.pass g longer had.pass)
+    (λ none. (p.point, omega (arith, prefix_length h a.view.pass longer, p.from_on), p.up_to, subst (IsLookup g p.point key) none p.answered))
+
+kept_kept : (key : Key) (h : List Change) (a b : OnCpu) (answer : Option Seen) → HasFoundKept key a b answer → IsPrefix h a.view.pass → FindsWhatIsKept key h b.view.pass (entry_seen key answer)
+kept_kept key h a b answer had longer =
+    subst (λ (x : OnCpu). FindsWhatIsKept key h x.view.pass (entry_seen key answer)) (sym had.is) (kept_inside key h a had.left (entry_seen key answer) had.finds longer)
+
+pub inside_kept_since : (key : Key) (h : List Change) (a b : OnCpu) (answer : Option Seen) → FindsInside key a b answer → IsPrefix h a.view.pass → FindsWhatIsKept key h b.view.pass (entry_seen key answer)
+inside_kept_since key h a b answer (None, at, had) longer = kept_kept key h a b answer had longer
+inside_kept_since key h a b answer (Some s, at, inl had) longer =
+    subst (λ (o : Option Seen). FindsWhatIsKept key h b.view.pass (entry_seen key o)) (sym had.0) (recalled_kept key h b.view.pass (entry_with key s.slot s.number s.value))
+inside_kept_since key h a b answer (Some s, at, inr (c, vain, had)) longer = kept_kept key h c b answer had (prefix_trans h a.view.pass c.view.pass longer vain.pass)
+
+pub inside_kept : (key : Key) (a b : OnCpu) (answer : Option Seen) → FindsInside key a b answer → FindsWhatIsKept key a.view.pass b.view.pass (entry_seen key answer)
+inside_kept key a b answer had = inside_kept_since key a.view.pass a b answer had ([], append-nil a.view.pass)
+
+-- at the load of the head
+absent_kept : (key : Key) (h g : List Change) (c : OnCpu) (answer : Option Seen) → IsAbsentAt key c answer → IsLegal g → IsPrefix h c.view.pass → IsPrefix c.view.pass g
+    → FindsWhatIsKept key h g (entry_seen key answer)
+absent_kept key h g c answer had legal before after =
+    let i = c.view.pass in
+    kept_from key h g (entry_seen key answer) legal (prefix_trans h i g before after)
+    (λ none. (length i, prefix_length h i before, prefix_length i g after, λ f live same. had.answered f (live_before i g (length i) (length i) f after live.begun (omega arith) (omega arith) live) same))
+
+head_kept : (w : ℕ) (key : Key) (h : List Change) (c b : OnCpu) (answer : Option Seen) → FindsAfterHead w key c b answer → IsLegal c.view.pass → c.depth ≡ 0 → IsPrefix h c.view.pass
+    → FindsWhatIsKept key h b.view.pass (entry_seen key answer)
+head_kept w key h c b answer (inl had) legal outside longer =
+    subst (λ (x : OnCpu). FindsWhatIsKept key h x.view.pass (entry_seen key answer)) (sym had.2) (absent_kept key h c.view.pass c answer had.1 legal longer ([], append-nil c.view.pass))
+head_kept w key h c b answer (inr (t, n, d, is, recalled, inl had)) legal outside longer =
+    subst (λ (x : OnCpu). FindsWhatIsKept key h x.view.pass (entry_seen key answer)) (sym had.2) (absent_kept key h d.view.pass c answer had.1 (whole_legal d.view recalled.whole) longer recalled.pass)
+head_kept w key h c b answer (inr (t, n, d, is, recalled, inr had)) legal outside longer =
+    let f = had.1.finds in
+    subst (λ (x : OnCpu). FindsWhatIsKept key h x.view.pass (entry_seen key answer)) (sym f.is)
+    (found_kept key h d f.left (entry_seen key answer) f.finds (ap (λ (x : OnCpu). x.depth) recalled.is ∙ outside) (prefix_trans h c.view.pass d.view.pass longer recalled.pass))
+
+pub anew_kept : (key : Key) (h : List Change) (a b : OnCpu) (answer : Option Seen) → HasFoundAnew key a b answer → a.depth ≡ 0 → IsPrefix h a.view.pass → FindsWhatIsKept key h b.view.pass (entry_seen key answer)
+anew_kept key h a b answer had outside longer =
+    let c = had.at_head in
+    head_kept had.head key h c b answer had.finds (whole_legal c.view had.heads.whole) (ap (λ (x : OnCpu). x.depth) had.heads.is ∙ outside) (prefix_trans h a.view.pass c.view.pass longer had.heads.pass)
+
+-- what the CPU remembers is live, by the load
+pub recalled_live : (key : Key) (o : OnPlainCpu) (b : OnCpu) (s : Seen) → HasSeen o key s → Recalls o.cpu.memory key (Some s) → HasRecalledOn s.slot s.number o.cpu b true → HasRecalledByMemory key o.cpu b (Some s)
+recalled_live key o b s had at recalled = (Some s, at, inl (refl, recalls_seen o key s b true had recalled))
+
 -- A lookup by memory
 
 abbrev pub FoundAndStays : Key → OnCpu → OnCpu → Option Seen → Type 0
-FoundAndStays key a b answer = HasFoundByMemory key a b answer × FindsWhatStays key a.view.pass b.view.pass (entry_seen key answer)
+FoundAndStays key a b answer = HasFoundByMemory key a b answer × FindsWhatStays key a.view.pass b.view.pass (entry_seen key answer) × FindsWhatIsKept key a.view.pass b.view.pass (entry_seen key answer)
 
 pub by_load : (key : Key) (a b : OnCpu) (s : Seen) → HasRecalledByMemory key a b (Some s) → FoundAndStays key a b (Some s)
 by_load key a b s (None, at, had) = let clash : ◌≡◌ {A = Option Seen} (Some s) None = had.0 in cc
 by_load key a b s (Some r, at, inl had) =
-    ((Some r, at, inl (had.0, had.1)), subst (λ (o : Option Seen). FindsWhatStays key a.view.pass b.view.pass (entry_seen key o)) (sym had.0) (recalled_stays key a b (entry_with key r.slot r.number r.value) had.1))
+    let e = entry_with key r.slot r.number r.value in (
+      (Some r, at, inl (had.0, had.1)),
+      subst (λ (o : Option Seen). FindsWhatStays key a.view.pass b.view.pass (entry_seen key o)) (sym had.0) (recalled_stays key a b e had.1),
+      recalled_kept key a.view.pass b.view.pass (entry_with key s.slot s.number s.value),
+    )
 by_load key a b s (Some r, at, inr had) = let clash : ◌≡◌ {A = Option Seen} (Some s) None = had.0 in cc
 
 -- anew, after a load that told nothing
 pub anew_after : (key : Key) (a c b : OnCpu) (answer : Option Seen) → HasRecalledByMemory key a c None → HasFoundAnew key c b answer → a.depth ≡ 0 → FoundAndStays key a b answer
 anew_after key a c b answer (None, at, had) anew outside =
     let here = subst (λ (x : OnCpu). HasFoundAnew key x b answer) had.1 anew in
-    ((None, at, here), anew_stays key a.view.pass a b answer here outside ([], append-nil a.view.pass))
+    let own : IsPrefix a.view.pass a.view.pass = ([], append-nil a.view.pass) in
+    ((None, at, here), anew_stays key a.view.pass a b answer here outside own, anew_kept key a.view.pass a b answer here outside own)
 anew_after key a c b answer (Some s, at, inl had) anew outside = let clash : ◌≡◌ {A = Option Seen} None (Some s) = had.0 in cc
 anew_after key a c b answer (Some s, at, inr had) anew outside =
-    ((Some s, at, inr (c, had.1, anew)), anew_stays key a.view.pass c b answer anew (ap (λ (x : OnCpu). x.depth) had.1.is ∙ outside) had.1.pass)
+    let out : c.depth ≡ 0 = ap (λ (x : OnCpu). x.depth) had.1.is ∙ outside in
+    ((Some s, at, inr (c, had.1, anew)), anew_stays key a.view.pass c b answer anew out had.1.pass, anew_kept key a.view.pass c b answer anew out had.1.pass)
 
 -- after such a load the CPU is outside still, with a section left
 pub still_outside : (key : Key) (a c : OnCpu) → HasRecalledByMemory key a c None → (c.depth ≡ a.depth) × (may_begin c.view ≡ may_begin a.view)
@@ -229,9 +337,9 @@ later_there h legal k e f le lf same lt = go f.number refl
   where
     go : (n : ℕ) → f.number ≡ n → ⊥
     go zero is = omega (arith, lt, is)
-    go (suc n) is = legal.new_slot n f e (ap (change_at h) (sym is) ∙ lf.attached) (live_down h k n e le (omega (arith, lt, is)) (omega (arith, lf.begun, is))) same
+    go (suc n) is = legal.new_slot n f e (ap (λ (m : ℕ). brought_by (change_at h m)) (sym is) ∙ lf.attached) (live_down h k n e le (omega (arith, lt, is)) (omega (arith, lf.begun, is))) same
 
--- The entry with the number n is live at the later load, so it was the newest one at the head's load. What is live there was attached by the miss, and would have been found.
+-- The entry with the number n is live at the later load, so it was the newest one, by rank, at the head's load. What is live there has a rank at most its, so something stood in its place at the miss, and would have been found.
 pub still_absent : (key : Key) (t n w : ℕ) (a c d : OnCpu) → WasAbsent a.view.pass key n → HasRecalledHeadOn a c w → w ≡ suc t → HasRecalledOn t n c d true → IsAbsentAt key c None
 still_absent key t n w a c d was heads is recalled =
     let g = c.view.pass in
@@ -240,18 +348,28 @@ still_absent key t n w a c d was heads is recalled =
     let here : IsAttached g e = attached_prefix a.view.pass g e heads.pass was.newest.attached in
     let there : IsLiveAt i (length i) e × (e.slot ≡ t) =
     recalled.live.only e (attached_prefix g i e recalled.pass here) (was.newest.number ∙ sym (eqb-true recalled.word n (sym recalled.found))) in
-    let live : IsLiveAt g (length g) e = live_before g i (length g) (length i) e recalled.pass (at_within g e.number (Attach e) here).1 (omega arith) (prefix_length g i recalled.pass) there.0 in
+    let live : IsLiveAt g (length g) e = live_before g i (length g) (length i) e recalled.pass (attached_within g e here).1 (omega arith) (prefix_length g i recalled.pass) there.0 in
     record {
       none = refl;
       whole = heads.whole;
       answered = λ f other same.
+          let legal = whole_legal c.view heads.whole in
           let top = heads.newest.newest t is in
+          let slots : e.slot ≡ top.0.slot = there.1 ∙ sym top.2 in
           let most : top.0.number ≤ e.number = ⊎_elim
-          (λ (lt : e.number < top.0.number). absurd (later_there g (whole_legal c.view heads.whole) (length g) e top.0 live top.1 (there.1 ∙ sym top.2) lt))
+          (λ (lt : e.number < top.0.number). absurd (later_there g legal (length g) e top.0 live top.1 slots lt))
           (λ (le : top.0.number ≤ e.number). le)
           (cases_lt e.number top.0.number) in
-          let begun : f.number ≤ was.point = omega (arith, most, top.3 f other, was.newest.number, was.from_on) in
-          was.answered f (live_before a.view.pass g was.point (length g) f heads.pass begun was.up_to (omega (arith, was.up_to, prefix_length a.view.pass g heads.pass)) other) same;
+          let least : e.number ≤ top.0.number = ⊎_elim
+          (λ (lt : top.0.number < e.number). absurd (later_there g legal (length g) top.0 e top.1 live (sym slots) lt))
+          (λ (le : e.number ≤ top.0.number). le)
+          (cases_lt top.0.number e.number) in
+          let same_number : top.0.number ≡ e.number = omega (arith, most, least) in
+          let low : rank_at g f.number ≤ was.point =
+          omega (arith, top.3 f other, ap (rank_at g) same_number, rank_low g legal e.number, was.newest.number, was.from_on) in
+          let up : was.point ≤ length g = omega (arith, was.up_to, prefix_length a.view.pass g heads.pass) in
+          let before = stood g legal (length g) was.point f other low up in
+          was.answered before.entry (live_before a.view.pass g was.point was.point before.entry heads.pass before.live.begun was.up_to (omega arith) before.live) (before.key ∙ same);
     }
 
 -- a miss in a section
@@ -262,7 +380,7 @@ section_absent key n a b had outside seen =
     subst (λ (g : List Change). WasAbsent g key n) (sym (left_pass key a b None had outside)) (record {
       newest = numbered_longer had.first.view.pass had.last.view.pass n had.finds.pass first;
       point = p.point;
-      from_on = omega (arith, (at_within had.first.view.pass first.entry.number (Attach first.entry) first.attached).1, first.number, p.from_on);
+      from_on = omega (arith, (attached_within had.first.view.pass first.entry first.attached).1, first.number, p.from_on);
       up_to = p.up_to;
       answered = p.answered;
     })

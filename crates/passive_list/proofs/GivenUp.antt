@@ -23,7 +23,7 @@ abbrev pub with_total : KeeperView → ℕ → List Mark → ℕ → List ℕ �
 with_total k t marks total given_up = record k { marks = set k.marks t marks; totals = set k.totals t total; due = Rest; given_up = given_up }
 
 abbrev pub row_with_total : KeptSlot → ℕ → KeptSlot
-row_with_total r total = record { state = r.state; total = Some total; keeps = r.keeps }
+row_with_total r total = record { state = r.state; total = Some total; keeps = r.keeps; rank = r.rank }
 
 pub with_total_rows : (a : Settings) (k : KeeperView) (rows : List KeptSlot) (t : ℕ) (marks : List Mark) (total : ℕ) (given_up : List ℕ) → IsAtRest a k → RowsAgree a k rows
     → (slot_at (states_of rows) t ≡ Vacant → ⊥)
@@ -38,8 +38,9 @@ with_total_rows a k rows t marks total given_up at agree some =
       total = sym (total_here k.totals t total (omega (arith, lt, at.sized.totals)));
       keeps = had.keeps;
       unused = λ vacant. absurd (some (state_at rows t ∙ vacant));
+      rank = had.rank;
     }
-    (λ u other was. row_stays k l u (row_at rows u) refl (total_other k.totals t total u other) refl was)
+    (λ u other was. row_stays k l u (row_at rows u) refl (total_other k.totals t total u other) refl (λ e is. refl) was)
 
 -- the keeper's data agree with such a view, where the slot isn't vacant
 pub with_total_keeper : (a : Settings) (k l : KeeperView) (rows : List KeptSlot) (n t : ℕ) (marks : List Mark) (total : ℕ) (given_up : List ℕ)

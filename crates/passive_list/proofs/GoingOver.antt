@@ -14,10 +14,11 @@ use Rattle.passive_list.specs.Types.{Entry, Kind, Iface, Name, Change, MOST_SLOT
 use Rattle.registry_values.specs.Names.{are_key_words}
 use Rattle.registry_values.specs.Common.{are_words_of, kind_word}
 use Rattle.protocol.specs.Common.{StandsOn}
-use Rattle.protocol.proofs.History.{one_entry}
-use Rattle.cpu_words.specs.Common.{MayLoadLink, PassTells, SkipsNone, Descends, LinkHolds, HasLoadedLink, HasLoadedWord, HasFollowed, IsValueThere, cpu_after_seek, cpu_after_link, search_for}
-use Rattle.passive_list.specs.Common.{OnCpu, search_at, IsUnderWay, cpu_with_search_at, after_visit, nobody, AreStoodOn, MayGoBy, HasGoneByFrom, HasGoneByOne, view_at_link, IsLiveSince, GoesOnAt, IsGoingOver, HasGoneOver, HasGoneOverBy, HasWalked, IsWritten}
-use Rattle.passive_list.proofs.Walking.{HasPassed, passed, prefix_trans, may_follow, prefix_length, stands_later, live_before, stood_was_live}
+use Rattle.protocol.proofs.History.{rank_low}
+use Rattle.cpu_words.specs.Common.{KeepsPlace, MayLoadLink, PassTells, SkipsNone, Descends, LinkHolds, HasLoadedLink, HasLoadedWord, HasFollowed, IsValueThere, cpu_after_seek, cpu_after_link, search_for}
+use Rattle.passive_list.specs.Common.{OnCpu, search_at, IsUnderWay, cpu_with_search_at, after_visit, nobody, AreStoodOn, MayGoBy, HasGoneByFrom, HasGoneByOne, view_at_link, HasPlaceOf, GoesOnAt, IsGoingOver, HasGoneOver, HasGoneOverBy, HasWalked, IsWritten}
+use Rattle.passive_list.proofs.Walking.{HasPassed, passed, prefix_trans, may_follow, prefix_length, kept_before, stands_later, stood_was_live, rank_later, one_stood}
+use Rattle.protocol.specs.History.{rank_at}
 
 -- One slot
 
@@ -84,7 +85,7 @@ few_stood_on begin h from slots es tells on = (few slots (λ e there. (on.slot e
         let f = get_or es j blank in
         let shared : e.slot ≡ f.slot = sym (slot_of i d low) ∙ same ∙ slot_of j d high in
         let one : e ≡ f = tells.one f.slot e f (subst (λ (t : ℕ). StandsOn h from (length h) t e) shared (at i low)) (at j high) in
-        omega (arith, on.newest_first i j blank lt high, ap (λ (g : Entry). g.number) one)
+        omega (arith, on.newest_first i j blank lt high, ap (λ (g : Entry). rank_at h g.number) one)
 
     below : (most : ℕ) → ((e : Entry) → Contains es e → e.slot < most) → (q : ℕ) → list_any (eqb q) used ≡ true → q < most
     below most within q is =
@@ -115,9 +116,12 @@ going_begins x y m had = record {
     is_at zero is = is
     is_at (suc t) is = is
 
+    low : (f : Entry) → KeepsPlace y.pass (length x.pass) f → rank_at y.pass f.number < suc (length y.pass)
+    low f kept = omega (arith, kept.live.begun, prefix_length x.pass y.pass had.pass, rank_low y.pass had.tells.legal f.number)
+
     goes_on : (m : ℕ) → LinkHolds x.settings (search_for nobody x) m y.pass → SkipsNone y.pass (length x.pass) (suc (length y.pass)) m → GoesOnAt y.pass (length x.pass) x.settings.slots [] m
-    goes_on zero holds skips = λ f live. absurd (skips f live.0 live.1 (omega (arith, live.1.begun)))
-    goes_on (suc t) holds skips = (holds, λ e stands. (λ f there. absurd (omega (arith, there.1)), λ f live. inl (skips e f stands live.0 live.1 (omega (arith, live.1.begun)))))
+    goes_on zero holds skips = λ f kept. absurd (skips f kept (low f kept))
+    goes_on (suc t) holds skips = (holds, λ e stands. (λ f there. absurd (omega (arith, there.1)), λ f kept. inl (skips e f stands kept (low f kept))))
 
 -- the search is under way at the slot of the link, and its section is the one that was open
 pub going_on : (x y : CpuView) (es : List Entry) (t : ℕ) → IsGoingOver x es (suc t) y → IsUnderWay y nobody (length x.pass) (AtNumber t)
@@ -131,7 +135,7 @@ gone_by_there x y z es t e at had = had (length x.pass) (going_on x y es t at) (
 
 -- the entry there is one more
 pub stood_on_more : (h : List Change) (from slots t : ℕ) (es : List Entry) (e : Entry) → AreStoodOn h from slots es → StandsOn h from (length h) t e → (t < slots) × (t < MOST_SLOTS)
-    → ((f : Entry) → Contains es f → e.number < f.number) → AreStoodOn h from slots (es ++ e ∷ [])
+    → ((f : Entry) → Contains es f → rank_at h e.number < rank_at h f.number) → AreStoodOn h from slots (es ++ e ∷ [])
 stood_on_more h from slots t es e on stands low newer = record {
   stands = λ f there. ⊎_elim
       (λ (old : Contains es f). on.stands f old)
@@ -141,11 +145,18 @@ stood_on_more h from slots t es e on stands low newer = record {
       (λ (old : Contains es f). on.slot f old)
       (λ (same : e ≡ f). subst (λ (u : ℕ). (u < slots) × (u < MOST_SLOTS)) (sym stands.at ∙ ap (λ (g : Entry). g.slot) same) low)
       (Contains-push_cases es e f there);
-  newest_first = all_pairs_push (λ (d f : Entry). f.number < d.number) es e on.newest_first (λ k d lt. newer (get_or es k d) (Contains-get_or es k d lt));
+  newest_first = all_pairs_push (λ (d f : Entry). rank_at h f.number < rank_at h d.number) es e on.newest_first (λ k d lt. newer (get_or es k d) (Contains-get_or es k d lt));
 }
 
 pub stood_later : (p h : List Change) (from slots : ℕ) (es : List Entry) → IsPrefix p h → from ≤ length p → AreStoodOn p from slots es → AreStoodOn h from slots es
-stood_later p h from slots es more low on = record { stands = λ e there. stands_later p h from e.slot e more low (on.stands e there); slot = on.slot; newest_first = on.newest_first }
+stood_later p h from slots es more low on = record {
+  stands = λ e there. stands_later p h from e.slot e more low (on.stands e there);
+  slot = on.slot;
+  newest_first = λ i j d lt within.
+      let rank : (k : ℕ) → k < length es → rank_at h (get_or es k d).number ≡ rank_at p (get_or es k d).number = λ k low_k.
+      rank_later p h (get_or es k d).number more (on.stands (get_or es k d) (Contains-get_or es k d low_k)).begun in
+      omega (arith, on.newest_first i j d lt within, rank i (omega (arith, lt, within)), rank j within);
+}
 
 with_next : (x y : CpuView) (es : List Entry) (t : ℕ) (e : Entry) → IsGoingOver x es (suc t) y → StandsOn y.pass (length x.pass) (length y.pass) t e
     → AreStoodOn y.pass (length x.pass) x.settings.slots (es ++ e ∷ [])
@@ -198,38 +209,40 @@ goes_by_next x y z w es t m e at had loaded_link =
     stands_z : StandsOn z.pass from (length z.pass) t e
     stands_z = subst (λ (p : List Change). StandsOn p from (length p) t e) (sym same) v.stands
 
-    -- live since, in the longer pass, so in the shorter one
-    earlier : (f : Entry) → IsLiveSince w.pass from f → IsLiveSince y.pass from f
-    earlier f live = (
-      live_before y.pass w.pass from from f more live.0.begun low (omega arith) live.0,
-      live_before y.pass w.pass (length y.pass) (length w.pass) f more (omega (arith, live.0.begun, low)) (omega arith) (prefix_length y.pass w.pass more) live.1,
-    )
+    rank_of_e : rank_at w.pass e.number ≡ rank_at y.pass e.number
+    rank_of_e = rank_later y.pass w.pass e.number more v.stands.begun
+
+    -- a place that is kept in the longer pass is kept in the shorter one
+    earlier : (f : Entry) → KeepsPlace w.pass from f → KeepsPlace y.pass from f
+    earlier f kept = kept_before y.pass w.pass from f followed.tells.legal more low kept
+
+    rank_of : (f : Entry) → KeepsPlace w.pass from f → rank_at w.pass f.number ≡ rank_at y.pass f.number
+    rank_of f kept = rank_later y.pass w.pass f.number more (omega (arith, kept.live.begun, low))
 
     -- so it is below e, or gone by
-    cases : (f : Entry) → IsLiveSince w.pass from f → (f.number < e.number) ⊎ Contains (es ++ e ∷ []) f
-    cases f live = ⊎_elim
-        (λ (le : f.number ≤ e.number). ⊎_elim
-        (λ (lt : f.number < e.number). inl lt)
-        (λ (ge : e.number ≤ f.number).
-        let one : e ≡ f = one_entry y.pass e f v.stands.attached (earlier f live).0.attached (omega (arith, le, ge)) in
-        inr (subst (Contains (es ++ e ∷ [])) one (Contains-push es e)))
-        (cases_lt f.number e.number))
-        (λ (old : Contains es f). inr (Contains-append_left es (e ∷ []) f old))
-        ((at.goes_on.1 e v.stands).1 f (earlier f live))
+    cases : (f : Entry) → KeepsPlace w.pass from f → (rank_at w.pass f.number < rank_at w.pass e.number) ⊎ HasPlaceOf w.pass (es ++ e ∷ []) f
+    cases f kept = ⊎_elim
+        (λ (le : rank_at y.pass f.number ≤ rank_at y.pass e.number). ⊎_elim
+        (λ (lt : rank_at y.pass f.number < rank_at y.pass e.number). inl (omega (arith, lt, rank_of_e, rank_of f kept)))
+        (λ (ge : rank_at y.pass e.number ≤ rank_at y.pass f.number). inr (e, Contains-push es e, omega (arith, le, ge, rank_of_e, rank_of f kept)))
+        (cases_lt (rank_at y.pass f.number) (rank_at y.pass e.number)))
+        (λ (old : HasPlaceOf y.pass es f).
+        inr (old.0, Contains-append_left es (e ∷ []) old.0 old.1, omega (arith, old.2, rank_of f kept, rank_later y.pass w.pass old.0.number more (at.over.stands old.0 old.1).begun)))
+        ((at.goes_on.1 e v.stands).1 f (earlier f kept))
 
-    goes_on : (m : ℕ) → LinkHolds z.settings (search_at nobody from (AtNext t)) m w.pass → SkipsNone w.pass from e.number m → Descends z.pass (search_at nobody from (AtNext t)) t m w.pass
+    goes_on : (m : ℕ) → LinkHolds z.settings (search_at nobody from (AtNext t)) m w.pass → SkipsNone w.pass from (rank_at w.pass e.number) m → Descends z.pass (search_at nobody from (AtNext t)) t m w.pass
         → GoesOnAt w.pass from x.settings.slots (es ++ e ∷ []) m
-    goes_on zero holds skips falls = λ f live. ⊎_elim (λ (lt : f.number < e.number). absurd (skips f live.0 live.1 lt)) (λ there. there) (cases f live)
+    goes_on zero holds skips falls = λ f kept. ⊎_elim (λ (lt : rank_at w.pass f.number < rank_at w.pass e.number). absurd (skips f kept lt)) (λ there. there) (cases f kept)
     goes_on (suc u) holds skips falls = (
       subst (λ (slots : ℕ). (u < slots) × (u < MOST_SLOTS)) (ap (λ (i : CpuView). i.settings.slots) v.is ∙ ap (λ (i : CpuView). i.settings.slots) at.is) holds,
       λ g stands. (
         λ f there.
-            let below : g.number < e.number = falls e g stands_z stands in
+            let below : rank_at w.pass g.number < rank_at w.pass e.number = falls e g stands_z stands in
             ⊎_elim
-            (λ (old : Contains es f). omega (arith, below, (at.goes_on.1 e v.stands).0 f old))
-            (λ (is : e ≡ f). omega (arith, below, ap (λ (d : Entry). d.number) is))
+            (λ (old : Contains es f). omega (arith, below, rank_of_e, (at.goes_on.1 e v.stands).0 f old, rank_later y.pass w.pass f.number more (at.over.stands f old).begun))
+            (λ (is : e ≡ f). omega (arith, below, ap (λ (d : Entry). rank_at w.pass d.number) is))
             (Contains-push_cases es e f there),
-        λ f live. ⊎_elim (λ (lt : f.number < e.number). inl (skips g f stands live.0 live.1 lt)) inr (cases f live),
+        λ f kept. ⊎_elim (λ (lt : rank_at w.pass f.number < rank_at w.pass e.number). inl (skips g f stands kept lt)) inr (cases f kept),
       ),
     )
 
@@ -289,7 +302,20 @@ going_id x y es (suc t) at = ap (λ (v : CpuView). v.id) at.is
 
 pub gone_over : (x y : CpuView) (es : List Entry) → IsGoingOver x es 0 y → HasGoneOver x y es
 gone_over x y es at =
-    assumption (at, λ (e : Entry) (there : Contains es e). stood_was_live y.pass (length x.pass) e.slot e at.tells.legal (prefix_length x.pass y.pass at.pass) (at.over.stands e there))
+    let from = length x.pass in
+    let low = prefix_length x.pass y.pass at.pass in
+    record {
+      pass = at.pass;
+      is = at.is;
+      since = at.tells.since;
+      all = λ e live.
+          let there : HasPlaceOf y.pass es e = at.goes_on e (record { live = live.0; now = e; stays = live.1; rank = refl }) in
+          let one : there.0 ≡ e = one_stood y.pass from there.0.slot there.0 e at.tells.legal low (at.over.stands there.0 there.1) live.0 live.1 there.2 in
+          subst (Contains es) one there.1;
+      places = at.goes_on;
+      each = λ e there. stood_was_live y.pass from e.slot e at.tells.legal low (at.over.stands e there);
+      newest_first = at.over.newest_first;
+    }
 
 -- to a contract
 pub walked : (a b : OnCpu) (row : List Entry) → a.view.search ≡ None → HasGoneOver a.view b.view row → b.depth ≡ a.depth → b.made ≡ a.made → b.memory ≡ a.memory → b.known_log ≡ a.known_log
@@ -305,6 +331,7 @@ walked a b row idle had depth made memory known_log log = record {
     log = b.log;
   };
   all = had.all;
+  places = had.places;
   each = had.each;
   held = λ e s there begun.
       let was = had.each e there in

@@ -7,7 +7,9 @@ pub mod Marks
 pub mod Leading
 pub mod Preparing
 pub mod Attached
+pub mod Ranks
 pub mod Retired
+pub mod Replaced
 pub mod GoingOver
 pub mod Visited
 pub mod GivenUp

@@ -111,7 +111,7 @@ one_written from n row old ms m place in_row had = record {
 }
 
 -- what is written through a slice of a whole list is then the list
-pub written_back : (n : ℕ) (xs ys : List Mark) → length ys ≡ n → take n (ys ++ drop (length ys) xs) ≡ ys
+pub written_back : {A : Type 0} (n : ℕ) (xs ys : List A) → length ys ≡ n → take n (ys ++ drop (length ys) xs) ≡ ys
 written_back n xs ys same = take-append-le n ys (drop (length ys) xs) (omega (arith, same)) ∙ take_all n ys (omega (arith, same))
 
 -- What they say
@@ -165,7 +165,7 @@ looked_keeper a k l rows ms n ev r t c p f q m e x our marks is retired low plac
     let v = marked k ev r t c m in
     let now : l ≡ v = change ∙ ap (marked k ev r t c) (sym (made ∙ ap f (mark_read a k ms t c p q marks it.0 it.2 place read))) in (
       keeper_on a l v rows n now (step_is_shown event)
-          (assumption (length-set k.marks t (set (get_or k.marks t []) c m) ∙ at.sized.marks, rows_cell k.marks t c m at.sized.mark_rows)) our.changes (rows_stay a k v rows refl refl refl our.rows),
+          (assumption (length-set k.marks t (set (get_or k.marks t []) c m) ∙ at.sized.marks, rows_cell k.marks t c m at.sized.mark_rows)) our.changes (rows_stay a k v rows refl refl refl refl our.rows),
       marks_set a k l ms t c p m at marks it.0 it.2 place (ap (λ (x : KeeperView). x.marks) now),
     )
 
@@ -182,7 +182,7 @@ looked_mark a k l rows ms n ev r t c p f q m e x our marks is retired low place 
 -- The end of a drain
 
 abbrev pub row_vacated : KeptSlot → KeptSlot
-row_vacated r = record { state = Vacant; total = r.total; keeps = r.keeps }
+row_vacated r = record { state = Vacant; total = r.total; keeps = r.keeps; rank = r.rank }
 
 pub vacated_at_rest : (a : Settings) (k : KeeperView) (t : ℕ) (e : Entry) → IsAtRest a k → t < a.slots → slot_at k.slots t ≡ Retired e → IsAtRest a (keeper_after_vacate k t)
 vacated_at_rest a k t e at lt retired =
@@ -197,7 +197,7 @@ vacated_keeper a k l rows n t our is change is_shown =
     let here = retired_in a k rows t is.retired.0 our.rows is.retired.1 in
     let m = keeper_after_vacate k t in
     keeper_on a l m (set rows t (row_vacated (row_at rows t))) n change is_shown (vacated_at_rest a k t is.retired.0 our.view here.0 here.1) our.changes
-    (state_set a k m rows t Vacant our.view our.rows here.0 refl refl refl (λ _. is.drained.total))
+    (state_set a k m rows t Vacant (row_at rows t).rank our.view.sized.slots our.rows here.0 refl refl refl (λ _. is.drained.total) (λ e is. cc) (λ u e is. refl))
 
 -- as many marks as there are CPUs, by the view's settings
 marks_taken : (a : Settings) (k : KeeperView) (ms : List Mark) (t cpus : ℕ) → IsAtRest a k → cpus ≡ a.cpus → take a.cpus ms ≡ take a.cpus (get_or k.marks t [])

@@ -1,41 +1,71 @@
 -- An entry is retired, and a retired interface is freed: the keeper may do so, and what it has agrees with what its seat knows then.
-use Rattle.std.proofs.Common.{◌≡◌, ℕ, zero, suc, ◌+◌, ◌*◌, ◌<◌, ◌≤◌, List, [], ◌∷◌, length, set, replicate, Option, Some, None, refl, sym, ap, ◌∙◌, subst, arith, get_or-set_same, get_or-set_other, length-set, ◌≢◌, inr, ◌-◌}
+use Rattle.std.proofs.Common.{◌≡◌, ℕ, zero, suc, ◌+◌, ◌*◌, ◌<◌, ◌≤◌, List, [], ◌∷◌, length, get_or, set, replicate, Option, Some, None, refl, sym, ap, ◌∙◌, subst, arith, get_or-set_same, get_or-set_other, length-set, ◌≢◌, inr, ◌-◌}
 use Rattle.std.proofs.lemmas.List.Quantifiers.{position-Some}
 use Rattle.passive_list.specs.Types.{Detach, Entry, Settings, Mark, Slot, Vacant, Live, Retired, MOST_CPUS, KeeperView, Iface, Rest, LogItem}
 use Rattle.registry_values.specs.Common.{live_count, slot_at, no_mark, has_number, slot_of, bias}
 use Rattle.protocol.specs.Common.{live_at, IsIn, DriversKept, total_at, kept_at}
 use Rattle.protocol.proofs.Cells.{slot_here, slot_other, total_other}
+use Rattle.protocol.specs.History.{rank_at}
 use Rattle.protocol.proofs.History.{length-after_change}
 use Rattle.protocol.proofs.keeps.ListKeeps.{live_count_put, rows_put}
 use Rattle.protocol.proofs.keeps.Drivers.{kept_number}
 use Rattle.protocol.proofs.Occupied.{has_it, not_vacant, number_in, one_number, position_found, slot_found, slot_has}
 use Rattle.cpu_words.specs.Common.{LeadsBelow, IsBefore, MayUnpublish, HasUnpublished, keeper_after_live, keeper_after_unpublish, links_with, IsShown, MayKeptSub, HasKeptSub, one_more}
 use Rattle.cpu_words.proofs.by_keeper.KeeperSteps.{seen_by_keeper}
-use Rattle.passive_list.specs.Common.{KeptSlot, row_at, states_of, AreWritten, IsAtRest, MarksAgree, RowsAgree, IsOurKeeper, with_snapshots, OnKeeper, no_row, state_of, total_or_bias, IsDrainedOn, kept_slot}
+use Rattle.passive_list.specs.Common.{AreRanksOf, KeptSlot, row_at, states_of, AreWritten, IsAtRest, MarksAgree, RowsAgree, IsOurKeeper, with_snapshots, OnKeeper, no_row, state_of, total_or_bias, IsDrainedOn, kept_slot}
 use Rattle.passive_list.specs.Draining.{place_of}
 use Rattle.passive_list.proofs.Marks.{marks_written, vacated_at_rest}
-use Rattle.passive_list.proofs.Rows.{state_at, state_set, live_in, keeper_on, row_stays, rows_set, rows_stay, taken_in, retired_in, IsHeldIn, held_by_slot}
-use Rattle.passive_list.proofs.Attached.{LiveIn, rows_live, live_rows, leads_on}
+use Rattle.passive_list.proofs.Ranks.{rank_detach}
+use Rattle.passive_list.proofs.Rows.{ranks_of, state_at, state_set, live_in, keeper_on, row_stays, rows_set, rows_stay, taken_in, retired_in, IsHeldIn, held_by_slot}
+use Rattle.passive_list.proofs.Attached.{LiveIn, rows_live, live_rows, leads_in}
 use Rattle.passive_list.proofs.GivenUp.{HeldRow, held_row, row_less, less, less_rows}
 
-before_on : (xs ys : List Slot) (n : ℕ) (p : Option ℕ) → LiveIn xs ys → LiveIn ys xs → IsBefore xs n p → IsBefore ys n p
-before_on xs ys n None on back was = λ t f live. was t f (back t f live)
-before_on xs ys n (Some q) on back was = (was.0, on q was.0 was.1, was.2, λ u h live above. was.3 u h (back u h live) above)
+before_on : (ranks : ℕ → ℕ) (xs ys : List Slot) (n : ℕ) (p : Option ℕ) → LiveIn xs ys → LiveIn ys xs → IsBefore ranks xs n p → IsBefore ranks ys n p
+before_on ranks xs ys n None on back was = λ t f live. was t f (back t f live)
+before_on ranks xs ys n (Some q) on back was = (was.0, on q was.0 was.1, was.2, λ u h live above. was.3 u h (back u h live) above)
 
-pub before_in : (a : Settings) (k : KeeperView) (rows : List KeptSlot) (n : ℕ) (p : Option ℕ) → IsAtRest a k → RowsAgree a k rows → IsBefore (states_of rows) n p → IsBefore k.slots n p
-before_in a k rows n p at agree was = before_on (states_of rows) k.slots n p (rows_live a k rows agree) (live_rows a k rows at agree) was
+-- where the rows say that the links beside the slot t lead: to it, and from it
 
-pub leads_in : (a : Settings) (k : KeeperView) (rows : List KeptSlot) (n v : ℕ) → IsAtRest a k → RowsAgree a k rows → LeadsBelow (states_of rows) n v → LeadsBelow k.slots n v
-leads_in a k rows n v at agree was = leads_on (states_of rows) k.slots n v (rows_live a k rows agree) (live_rows a k rows at agree) was
+abbrev pub StandsBefore : List KeptSlot → ℕ → Option ℕ → Type 0
+StandsBefore rows t p = (ranks : ℕ → ℕ) → AreRanksOf ranks rows → IsBefore ranks (states_of rows) (row_at rows t).rank p
+
+abbrev pub LeadsFrom : List KeptSlot → ℕ → ℕ → Type 0
+LeadsFrom rows t v = (ranks : ℕ → ℕ) → AreRanksOf ranks rows → LeadsBelow ranks (states_of rows) (row_at rows t).rank v
+
+-- as they were read: r is the slot's row, and xs are the rows
+
+pub before_read : (rows xs : List KeptSlot) (t : ℕ) (r : KeptSlot) (p : Option ℕ) → r ≡ row_at rows t → xs ≡ rows
+    → ((ranks : ℕ → ℕ) → AreRanksOf ranks xs → IsBefore ranks (states_of xs) r.rank p) → StandsBefore rows t p
+before_read rows xs t r p row same had = λ ranks are.
+    subst (λ (s : KeptSlot). IsBefore ranks (states_of rows) s.rank p) row (subst (λ (ys : List KeptSlot). IsBefore ranks (states_of ys) r.rank p) same (had ranks (subst (AreRanksOf ranks) (sym same) are)))
+
+pub leads_read : (rows xs : List KeptSlot) (t : ℕ) (r : KeptSlot) (v : ℕ) → r ≡ row_at rows t → xs ≡ rows
+    → ((ranks : ℕ → ℕ) → AreRanksOf ranks xs → LeadsBelow ranks (states_of xs) r.rank v) → LeadsFrom rows t v
+leads_read rows xs t r v row same had = λ ranks are.
+    subst (λ (s : KeptSlot). LeadsBelow ranks (states_of rows) s.rank v) row (subst (λ (ys : List KeptSlot). LeadsBelow ranks (states_of ys) r.rank v) same (had ranks (subst (AreRanksOf ranks) (sym same) are)))
+
+-- so they lead by what the seat knows, of the slot's live entry e
+
+pub before_row : (a : Settings) (k : KeeperView) (rows : List KeptSlot) (t : ℕ) (e : Entry) (p : Option ℕ) → IsAtRest a k → RowsAgree a k rows → (row_at rows t).state ≡ Live e
+    → StandsBefore rows t p → IsBefore (rank_at k.history) k.slots (rank_at k.history e.number) p
+before_row a k rows t e p at agree is before =
+    let ranks = ranks_of a k rows agree in
+    subst (λ (n : ℕ). IsBefore (rank_at k.history) k.slots n p) (ranks t e is)
+    (before_on (rank_at k.history) (states_of rows) k.slots (row_at rows t).rank p (rows_live a k rows agree) (live_rows a k rows at agree) (before (rank_at k.history) ranks))
+
+pub leads_row : (a : Settings) (k : KeeperView) (rows : List KeptSlot) (t : ℕ) (e : Entry) (v : ℕ) → IsAtRest a k → RowsAgree a k rows → (row_at rows t).state ≡ Live e
+    → LeadsFrom rows t v → LeadsBelow (rank_at k.history) k.slots (rank_at k.history e.number) v
+leads_row a k rows t e v at agree is link =
+    subst (λ (n : ℕ). LeadsBelow (rank_at k.history) k.slots n v) (ranks_of a k rows agree t e is) (leads_in a k rows (row_at rows t).rank v at agree link)
 
 pub may_unpublish : (a : Settings) (k : KeeperView) (rows : List KeptSlot) (t : ℕ) (e : Entry) (p : Option ℕ) (v : ℕ) → IsAtRest a k → RowsAgree a k rows → (row_at rows t).state ≡ Live e
-    → IsBefore (states_of rows) e.number p → LeadsBelow (states_of rows) e.number v → live_at k.lives t ≡ 0 → MayUnpublish k t p v
+    → StandsBefore rows t p → LeadsFrom rows t v → live_at k.lives t ≡ 0 → MayUnpublish k t p v
 may_unpublish a k rows t e p v at agree is before link hidden = record {
   rest = at.rest;
   e = e;
   live = (live_in a k rows t e agree (state_at rows t ∙ is)).1;
-  before = before_in a k rows e.number p at agree before;
-  link = leads_in a k rows e.number v at agree link;
+  before = before_row a k rows t e p at agree is before;
+  link = leads_row a k rows t e v at agree is link;
   hidden = hidden;
 }
 
@@ -60,9 +90,9 @@ zero_stored (x ∷ xs) zero = refl
 zero_stored (x ∷ xs) (suc t) = zero_stored xs t
 
 pub stored_keeper : (a : Settings) (k l : KeeperView) (rows : List KeptSlot) (n t v : ℕ) → IsOurKeeper a k rows n → l ≡ keeper_after_live k t v → IsShown l → IsOurKeeper a l rows n
-stored_keeper a k l rows n t v our change is_shown = keeper_on a l (keeper_after_live k t v) rows n change is_shown (assumption) our.changes (rows_stay a k (keeper_after_live k t v) rows refl refl refl our.rows)
+stored_keeper a k l rows n t v our change is_shown = keeper_on a l (keeper_after_live k t v) rows n change is_shown (assumption) our.changes (rows_stay a k (keeper_after_live k t v) rows refl refl refl refl our.rows)
 
-links_size : (next : List ℕ) (p : Option ℕ) (v : ℕ) → length (links_with next p v) ≡ length next
+pub links_size : (next : List ℕ) (p : Option ℕ) (v : ℕ) → length (links_with next p v) ≡ length next
 links_size next None v = refl
 links_size next (Some q) v = length-set next q v
 
@@ -81,7 +111,7 @@ detached_at_rest a k t e p v marks at lt live size =
     )
 
 abbrev pub row_retired : KeptSlot → Entry → KeptSlot
-row_retired r e = record { state = Retired e; total = r.total; keeps = r.keeps }
+row_retired r e = record { state = Retired e; total = r.total; keeps = r.keeps; rank = r.rank }
 
 pub detached_keeper : (a : Settings) (k l : KeeperView) (rows : List KeptSlot) (n t : ℕ) (e : Entry) (p : Option ℕ) (v : ℕ) (marks : List Mark) → IsOurKeeper a k rows n
     → (row_at rows t).state ≡ Live e → length marks ≡ MOST_CPUS
@@ -90,16 +120,17 @@ detached_keeper a k l rows n t e p v marks our is marks_size change is_shown =
     let live = live_in a k rows t e our.rows (state_at rows t ∙ is) in
     let m = snapped k t e p v marks in
     keeper_on a l m (set rows t (row_retired (row_at rows t) e)) (n + 1) change is_shown (detached_at_rest a k t e p v marks our.view live.0 live.1 marks_size)
-    (omega (arith, our.changes, length-after_change k.history (Detach e.number))) (state_set a k m rows t (Retired e) our.view our.rows live.0 refl refl refl (λ vacant. cc))
+    (omega (arith, our.changes, length-after_change k.history (Detach e.number))) (state_set a k m rows t (Retired e) (row_at rows t).rank our.view.sized.slots our.rows live.0 refl refl refl (λ vacant. cc) (λ f is. cc)
+    (λ u f is. rank_detach k.history e.number f.number))
 
 -- and its marks with those that were taken
-pub detached_marks : (a : Settings) (k l : KeeperView) (ms ns : List Mark) (t : ℕ) (e : Entry) (p : Option ℕ) (v : ℕ) (row : List Mark) → IsAtRest a k → MarksAgree a k ms → t < a.slots
-    → AreWritten (t * a.cpus) a.cpus row ms ns → l ≡ snapped k t e p v row → MarksAgree a l ns
-detached_marks a k l ms ns t e p v row at had lt written change =
+pub taken_marks : (a : Settings) (k l : KeeperView) (ms ns : List Mark) (t : ℕ) (row : List Mark) → IsAtRest a k → MarksAgree a k ms → t < a.slots → AreWritten (t * a.cpus) a.cpus row ms ns
+    → l.marks ≡ set (set k.marks t (replicate MOST_CPUS no_mark)) t row → MarksAgree a l ns
+taken_marks a k l ms ns t row at had lt written change =
     let fresh = replicate MOST_CPUS no_mark in
-    subst (λ (x : KeeperView). MarksAgree a x ns) (sym change) (marks_written a k (snapped k t e p v row) ms ns t row had written
-    (get_or-set_same (set k.marks t fresh) t row [] (omega (arith, lt, at.sized.marks, length-set k.marks t fresh)))
-    (λ u off. get_or-set_other (set k.marks t fresh) t u row [] off ∙ get_or-set_other k.marks t u fresh [] off))
+    marks_written a k l ms ns t row had written
+    (ap (λ (x : List (List Mark)). get_or x t []) change ∙ get_or-set_same (set k.marks t fresh) t row [] (omega (arith, lt, at.sized.marks, length-set k.marks t fresh)))
+    (λ u off. ap (λ (x : List (List Mark)). get_or x u []) change ∙ get_or-set_other (set k.marks t fresh) t u row [] off ∙ get_or-set_other k.marks t u fresh [] off)
 
 -- A retired interface is freed: the driver that its slot keeps has a row, the keeper may give it up, and what it has agrees with what its seat knows then.
 
@@ -212,7 +243,7 @@ pub freed_is : (k l : KeeperView) (t d u : ℕ) → kept_at k.keeps t ≡ Some d
 freed_is k l t d u kept told = told.2 ∙ ap (λ (n : ℕ). freed k t n u) (let q : ◌≡◌ {A = Option ℕ} (Some told.0) (Some d) = sym told.1.0 ∙ kept in cc)
 
 abbrev pub row_freed : KeptSlot → KeptSlot
-row_freed r = record { state = Vacant; total = r.total; keeps = None }
+row_freed r = record { state = Vacant; total = r.total; keeps = None; rank = r.rank }
 
 -- the total of the driver is one less, and then the slot is vacant
 freed_rows : (a : Settings) (k : KeeperView) (rows : List KeptSlot) (t d u v : ℕ) → IsAtRest a k → RowsAgree a k rows → IsHeldIn k u → u ≢ t → t < a.slots → total_at k.totals t ≡ bias → v ≡ total_or_bias (row_at rows u)
@@ -227,8 +258,9 @@ freed_rows a k rows t d u v at agree held off lt total read =
       total = had.total ∙ sym (total_other k.totals u _ t (λ same. off (sym same)));
       keeps = sym (get_or-set_same k.keeps t None None (omega (arith, lt, at.sized.keeps)));
       unused = λ vacant. had.total ∙ total;
+      rank = λ e is. cc;
     }
-    (λ w other was. row_stays m (freed k t d u) w (row_at rows' w) (slot_other k.slots t Vacant w other) refl (get_or-set_other k.keeps t w None None other) was)
+    (λ w other was. row_stays m (freed k t d u) w (row_at rows' w) (slot_other k.slots t Vacant w other) refl (get_or-set_other k.keeps t w None None other) (λ e is. refl) was)
 
 pub freed_keeper : {log : List LogItem} (a : Settings) (k l : KeeperView) (rows : List KeptSlot) (n t u v : ℕ) (x : OnKeeper) → IsOurKeeper a k rows n
     → record { view = k; slots = states_of rows; log = log } ≡ x → IsDrainedOn x t → KeepsHeld k t u

@@ -5,10 +5,11 @@ use Rattle.std.proofs.lemmas.Bool.{cases_lt}
 use Rattle.std.proofs.lemmas.List.{length-replicate, get_or-replicate, get_or_past, get_or_read, length-map}
 use Rattle.std.proofs.lemmas.List.Elements.{All-append, All-cons}
 use Rattle.atomic_table.specs.Seated.{TableId}
-use Rattle.passive_list.specs.Types.{Entry, Settings, Key, Slot, Vacant, Live, Retired, MOST_CPUS, KeeperView, LogItem, Due, Rest, Adding, Subtracting, Mark, MOST_SLOTS}
+use Rattle.passive_list.specs.Types.{Entry, Settings, Key, Slot, Vacant, Live, Retired, MOST_CPUS, KeeperView, LogItem, Change, Due, Rest, Adding, Subtracting, Mark, MOST_SLOTS}
 use Rattle.registry_values.specs.Common.{are_fit, bias, no_mark, is_live_as, is_taken, slot_at, slot_of, are_collected, is_retired}
 use Rattle.registry_values.proofs.Fit.{ranges}
 use Rattle.protocol.specs.Common.{no_words, total_at, kept_at, IsIn, Balances, held_at, addition_due_at, is_adding_at, subtraction_due_at, greatest_limit, State, at_rest, mark_at}
+use Rattle.protocol.specs.History.{rank_at}
 use Rattle.protocol.proofs.keeps.MarkKeeps.{none_live, rows_all}
 use Rattle.protocol.proofs.Occupied.{place_cases, in_within, slot_has}
 use Rattle.protocol.proofs.counts.Sums.{all_collected, held_kept, one_self}
@@ -18,7 +19,7 @@ use Rattle.protocol.proofs.keeps.References.{due_subtracting}
 use Rattle.protocol.proofs.Cells.{slot_here, slot_other, snapshot_stands}
 use Rattle.cpu_words.specs.Common.{keeper_with, row_of, Good, IsShown, KeeperShown, occupant_of, IsOwnLog, keeper_with_note}
 use Rattle.cpu_words.proofs.by_keeper.KeeperSteps.{seen_by_keeper}
-use Rattle.passive_list.specs.Common.{KeptSlot, OnPlainKeeper, HasRows, on_keeper, no_row, row_at, state_of, states_of, RowAgrees, IsAtRest, IsOurKeeper, RowsAgree, OnKeeper, GoesOnBy, HasOwnLog}
+use Rattle.passive_list.specs.Common.{AreRanksOf, KeptSlot, OnPlainKeeper, HasRows, on_keeper, no_row, row_at, state_of, states_of, RowAgrees, IsAtRest, IsOurKeeper, RowsAgree, OnKeeper, GoesOnBy, HasOwnLog}
 
 -- The rows of the keeper: what they say of a view, as one row or the view changes.
 
@@ -68,6 +69,7 @@ new_rows a = record {
     total = sym (get_or-replicate a.slots t bias 0 lt);
     keeps = sym (get_or-replicate a.slots t None None lt);
     unused = λ vacant. refl;
+    rank = λ e is. cc;
   };
 }
 
@@ -111,20 +113,37 @@ retired_in a k rows t e agree is = taken_in a k rows t (Retired e) agree is (λ 
 pub live_in : (a : Settings) (k : KeeperView) (rows : List KeptSlot) (t : ℕ) (e : Entry) → RowsAgree a k rows → slot_at (states_of rows) t ≡ Live e → (t < a.slots) × (slot_at k.slots t ≡ Live e)
 live_in a k rows t e agree is = taken_in a k rows t (Live e) agree is (λ v. cc)
 
+-- and the ranks of the rows are those of the view's history
+pub ranks_of : (a : Settings) (k : KeeperView) (rows : List KeptSlot) → RowsAgree a k rows → AreRanksOf (rank_at k.history) rows
+ranks_of a k rows agree t e is = let lt = (live_in a k rows t e agree (state_at rows t ∙ is)).0 in (agree.each t lt).rank e is
+
+-- what is read of a live entry's slot is its row
+pub live_read : (a : Settings) (k : KeeperView) (rows : List KeptSlot) (t : ℕ) (e : Entry) (r : KeptSlot) → RowsAgree a k rows → slot_at (states_of rows) t ≡ Live e → r ≡ get_or rows t r
+    → r ≡ row_at rows t
+live_read a k rows t e r agree live is = row_read a k rows t r agree (live_in a k rows t e agree live).0 is
+
 -- what a row says goes with what the view says of its slot
 pub row_stays : (k l : KeeperView) (t : ℕ) (r : KeptSlot) → slot_at l.slots t ≡ slot_at k.slots t
-    → total_at l.totals t ≡ total_at k.totals t → kept_at l.keeps t ≡ kept_at k.keeps t → RowAgrees k t r → RowAgrees l t r
-row_stays k l t r slot total keeps had = record {
+    → total_at l.totals t ≡ total_at k.totals t → kept_at l.keeps t ≡ kept_at k.keeps t → ((e : Entry) → slot_at k.slots t ≡ Live e → rank_at l.history e.number ≡ rank_at k.history e.number)
+    → RowAgrees k t r → RowAgrees l t r
+row_stays k l t r slot total keeps ranks had = record {
   state = slot ∙ had.state;
   total = had.total ∙ sym total;
   keeps = had.keeps ∙ sym keeps;
   unused = had.unused;
+  rank = λ e is. had.rank e is ∙ sym (ranks e (had.state ∙ is));
 }
 
+-- what is live in k has in l the rank that it has in k
+abbrev pub RanksStay : KeeperView → KeeperView → Type 0
+RanksStay k l = (t : ℕ) (e : Entry) → slot_at k.slots t ≡ Live e → rank_at l.history e.number ≡ rank_at k.history e.number
+
 -- a view with the same slots, totals and kept numbers
-pub rows_stay : (a : Settings) (k l : KeeperView) (rows : List KeptSlot) → l.slots ≡ k.slots → l.totals ≡ k.totals → l.keeps ≡ k.keeps → RowsAgree a k rows → RowsAgree a l rows
-rows_stay a k l rows slots totals keeps agree =
-    record { size = agree.size; each = λ t lt. row_stays k l t (row_at rows t) (λ i. slot_at (slots i) t) (λ i. total_at (totals i) t) (λ i. kept_at (keeps i) t) (agree.each t lt) }
+pub rows_stay : (a : Settings) (k l : KeeperView) (rows : List KeptSlot) → l.slots ≡ k.slots → l.totals ≡ k.totals → l.keeps ≡ k.keeps → l.history ≡ k.history → RowsAgree a k rows → RowsAgree a l rows
+rows_stay a k l rows slots totals keeps history agree = record {
+  size = agree.size;
+  each = λ t lt. row_stays k l t (row_at rows t) (λ i. slot_at (slots i) t) (λ i. total_at (totals i) t) (λ i. kept_at (keeps i) t) (λ e is. ap (λ (h : List Change). rank_at h e.number) history) (agree.each t lt);
+}
 
 -- the keeper's data agree with the view m, so with l
 pub keeper_on : (a : Settings) (l m : KeeperView) (rows : List KeptSlot) (n : ℕ) → l ≡ m → IsShown l → IsAtRest a m → n ≡ length m.history → RowsAgree a m rows → IsOurKeeper a l rows n
@@ -142,15 +161,16 @@ rows_set a k l rows t r lt agree here others = record {
       (place_cases no_row rows t r u (let size = agree.size in omega arith));
 }
 
--- the slot t becomes x
-pub state_set : (a : Settings) (k l : KeeperView) (rows : List KeptSlot) (t : ℕ) (x : Slot) → IsAtRest a k → RowsAgree a k rows → t < a.slots
-    → l.slots ≡ set k.slots t x → l.totals ≡ k.totals → l.keeps ≡ k.keeps → (x ≡ Vacant → total_at k.totals t ≡ bias) → RowsAgree a l (set rows t (record (row_at rows t) { state = x }))
-state_set a k l rows t x at agree lt slots totals keeps unused =
+-- the slot t becomes x, with the rank r
+pub state_set : (a : Settings) (k l : KeeperView) (rows : List KeptSlot) (t : ℕ) (x : Slot) (r : ℕ) → length k.slots ≡ a.slots → RowsAgree a k rows → t < a.slots
+    → l.slots ≡ set k.slots t x → l.totals ≡ k.totals → l.keeps ≡ k.keeps → (x ≡ Vacant → total_at k.totals t ≡ bias) → ((e : Entry) → x ≡ Live e → r ≡ rank_at l.history e.number) → RanksStay k l
+    → RowsAgree a l (set rows t (record (row_at rows t) { state = x; rank = r }))
+state_set a k l rows t x r size agree lt slots totals keeps unused rank ranks =
     let had = agree.each t lt in
-    let m : KeeperView = record k { slots = set k.slots t x } in
-    rows_stay a m l (set rows t (record (row_at rows t) { state = x })) slots totals keeps (rows_set a k m rows t (record (row_at rows t) { state = x }) lt agree
-    record { state = slot_here k.slots t x (omega (arith, lt, at.sized.slots)); total = had.total; keeps = had.keeps; unused = λ vacant. had.total ∙ unused vacant }
-    (λ u off was. row_stays k m u (row_at rows u) (slot_other k.slots t x u off) refl refl was))
+    let m : KeeperView = record k { slots = set k.slots t x; history = l.history } in
+    rows_stay a m l (set rows t (record (row_at rows t) { state = x; rank = r })) slots totals keeps refl (rows_set a k m rows t (record (row_at rows t) { state = x; rank = r }) lt agree
+    record { state = slot_here k.slots t x (omega (arith, lt, size)); total = had.total; keeps = had.keeps; unused = λ vacant. had.total ∙ unused vacant; rank = rank }
+    (λ u off was. row_stays k m u (row_at rows u) (slot_other k.slots t x u off) refl refl (ranks u) was))
 
 -- The keeper as contracts see it: it has the rows that are in it
 pub has_rows : {table : TableId} {log : List LogItem} (a : Settings) (k : KeeperView) (rows : List KeptSlot) (n : ℕ) (x : OnPlainKeeper) → IsOurKeeper a k rows n → on_keeper table a k rows log ≡ x

@@ -1,7 +1,7 @@
 -- A CPU that has a share of a ledger, and the CPU without it: what is told of a lookup of the one is told of the other.
 use Rattle.std.proofs.Common.{◌≡◌, ℕ, true, Option, Some, None, inl, inr, ap, ◌∙◌}
 use Rattle.passive_list.specs.Types.{Entry, Key}
-use Rattle.passive_list.specs.Common.{HasFoundAnew, HasFoundByMemory, HasFoundFromOutside, HasFoundInSection, HasFoundInside, HasFoundKept, HasRecalledInVain, HasRecalledOn, OnCpu, OnPlainCpu, FindsAfterHead, FindsAfterWord, FindsBy, Seen}
+use Rattle.passive_list.specs.Common.{HasFoundAnew, HasFoundByMemory, HasFoundFromOutside, HasFoundInSection, HasFoundKept, HasRecalledInVain, HasRecalledOn, OnCpu, OnPlainCpu, FindsAfterHead, FindsAfterWord, FindsBy, FindsInside, Seen}
 
 abbrev pub sharing : ℕ → OnCpu → OnCpu
 sharing m x = record x { made = m }
@@ -52,7 +52,7 @@ finds_by m (Some s) key a b answer (inr had) = inr (sharing m had.0, vain m s a 
 pub found_by_memory : (m : ℕ) (key : Key) (a b : OnCpu) (answer : Option Seen) → HasFoundByMemory key a b answer → HasFoundByMemory key (sharing m a) (sharing m b) answer
 found_by_memory m key a b answer had = (had.0, had.1, finds_by m had.0 key a b answer had.2)
 
-pub found_inside : (m : ℕ) (key : Key) (a b : OnCpu) (answer : Option Entry) → HasFoundInside key a b answer → HasFoundInside key (sharing m a) (sharing m b) answer
-found_inside m key a b answer (seen, is, (None, at, had)) = (seen, is, (None, at, kept m key a b seen had))
-found_inside m key a b answer (seen, is, (Some s, at, inl had)) = (seen, is, (Some s, at, inl (had.0, assumption (ap (sharing m) had.1.is, had.1))))
-found_inside m key a b answer (seen, is, (Some s, at, inr had)) = (seen, is, (Some s, at, inr (sharing m had.0, vain m s a had.0 had.1, kept m key had.0 b seen had.2)))
+pub found_inside : (m : ℕ) (key : Key) (a b : OnCpu) (answer : Option Seen) → FindsInside key a b answer → FindsInside key (sharing m a) (sharing m b) answer
+found_inside m key a b answer (None, at, had) = (None, at, kept m key a b answer had)
+found_inside m key a b answer (Some s, at, inl had) = (Some s, at, inl (had.0, assumption (ap (sharing m) had.1.is, had.1)))
+found_inside m key a b answer (Some s, at, inr had) = (Some s, at, inr (sharing m had.0, vain m s a had.0 had.1, kept m key had.0 b answer had.2))

@@ -8,15 +8,16 @@ use Rattle.passive_list.specs.Types.{Entry, Change, Key, Found, Search, AtNext, 
 use Rattle.protocol.specs.Common.{entry_with}
 use Rattle.cpu_words.specs.Common.{HasLoadedLink, PassTells, loaded_of, loaded_answer}
 use Rattle.passive_list.specs.Common.{search_at, HasVisited, IsOn, AreStoodOn}
-use Rattle.passive_list.proofs.Walking.{on_way, prefix_length}
+use Rattle.passive_list.proofs.Walking.{on_way, prefix_length, rank_later}
 use Rattle.passive_list.proofs.GoingOver.{few_stood_on, none_stood_on, stood_later, stood_on_more}
+use Rattle.protocol.specs.History.{rank_at}
 
--- the search begun in the view x has visited so many entries, the newest first, as the pass p tells; the number `last` is above none of theirs
+-- the search begun in the view x has visited so many entries, the newest first, as the pass p tells; the rank of `last` is above none of theirs
 pub record HasGoneBy (x : CpuView) (visited last : ℕ) (p : List Change) : Type 0 where
   pub entries : List Entry
   pub size : length entries ≡ visited
   pub stood : AreStoodOn p (length x.pass) x.settings.slots entries
-  pub over : (e : Entry) → Contains entries e → last ≤ e.number
+  pub over : (e : Entry) → Contains entries e → rank_at p last ≤ rank_at p e.number
 
 pub gone_by_none : (x : CpuView) (last : ℕ) (p : List Change) → HasGoneBy x 0 last p
 gone_by_none x last p = record { entries = []; size = refl; stood = none_stood_on p (length x.pass) x.settings.slots; over = λ e there. absurd (omega (arith, there.1)) }
@@ -30,14 +31,16 @@ one_more_gone_by key x y z t n last visited b p on had more so_far =
     let e = v.entry in
     let es = so_far.entries in
     let below = on.below e v.stands in
+    let here : rank_at p e.number ≡ rank_at y.pass e.number = rank_later y.pass p e.number more v.stands.begun in
+    let own : rank_at p e.number ≡ rank_at p n = ap (rank_at p) v.number in
     record {
       entries = es ++ e ∷ [];
       size = omega (arith, length-append es (e ∷ []), so_far.size);
       stood = stood_later y.pass p from x.settings.slots (es ++ e ∷ []) more (prefix_length x.pass y.pass on.pass)
           (stood_on_more y.pass from x.settings.slots t es e so_far.stood v.stands on.slot (λ f there. omega (arith, below, so_far.over f there)));
       over = λ f there. ⊎_elim
-          (λ (old : Contains es f). omega (arith, below, v.number, so_far.over f old))
-          (λ (same : e ≡ f). omega (arith, v.number, ap (λ (g : Entry). g.number) same))
+          (λ (old : Contains es f). omega (arith, below, own, here, so_far.over f old, rank_later y.pass p f.number more (so_far.stood.stands f old).begun))
+          (λ (same : e ≡ f). omega (arith, own, ap (λ (g : Entry). rank_at p g.number) same))
           (Contains-push_cases es e f there);
     }
 

@@ -1,19 +1,21 @@
 -- A search: its events load by load, in one slot and from one to the next, and what stays so of an entry as a pass grows.
-use Rattle.std.proofs.Common.{◌≡◌, ◌∙◌, ℕ, ◌+◌, ◌*◌, ◌≤◌, List, ◌++◌, Some, None, inl, inr, refl, ap, subst, append_assoc, arith, ◌<◌, ⊎_elim, length, sym, ◌≢◌, zero, suc, ◌-◌, Bool, true, false, Option, IfSome}
-use Rattle.std.proofs.lemmas.List.{length-append}
+use Rattle.std.proofs.Common.{◌≡◌, ◌∙◌, ℕ, ◌+◌, ◌*◌, ◌≤◌, List, ◌++◌, Some, None, inl, inr, refl, ap, subst, append_assoc, arith, ◌<◌, ⊎_elim, length, sym, ◌≢◌, zero, suc, ◌-◌, Bool, true, false, Option, IfSome, take, drop}
+use Rattle.std.proofs.lemmas.List.{length-append, take-append-drop}
 use Rattle.std.proofs.lemmas.List.Elements.{All-append}
 use Rattle.std.proofs.lemmas.Bool.{cases_lt}
 use mathlib.Core.List.{IsPrefix}
-use Rattle.passive_list.specs.Types.{Entry, Kind, Name, Key, Seek, LoadLink, LoadRecord, Compared, Reply, Done, Found, LogItem, Change, Detach, Settings, MOST_SLOTS, SearchPlace, AtNext, AtNumber, AtKind, AtHigh, AtLow, AtValue, On, CpuView}
+use Rattle.passive_list.specs.Types.{Entry, Kind, Name, Key, Seek, LoadLink, LoadRecord, Compared, Reply, Done, Found, LogItem, Change, Settings, MOST_SLOTS, SearchPlace, AtNext, AtNumber, AtKind, AtHigh, AtLow, AtValue, On, CpuView}
 use Rattle.registry_values.specs.Common.{are_words_of, kind_word}
-use Rattle.protocol.specs.Common.{IsAttached, EndsAt, IsLegal, IsLiveAt, StandsOn, IsLawful, loaded_at, loaded_of_name, entry_with}
+use Rattle.protocol.specs.Common.{IsAttached, EndsAt, IsLegal, IsLiveAt, StandsOn, IsLawful, loaded_at, loaded_of_name, entry_with, seen_at, brought_by, ended_by}
 use Rattle.protocol.specs.declared.event.RecordOf.TheVariants.{Search as OfSearch}
-use Rattle.protocol.specs.History.{change_at}
-use Rattle.protocol.proofs.History.{at_within, ends_after, at_prefix}
-use Rattle.cpu_words.specs.Common.{did, key_with, link_answer, MayLoadLink, MayLoadSearched, IsAtWord, every_word, cpu_after_record_word, HasLoadedLink, HasLoadedWord, HasFollowed, PassTells}
-use Rattle.cpu_words.proofs.shown.Seeing.{attached_prefix}
+use Rattle.protocol.specs.History.{change_at, rank_at}
+use Rattle.protocol.proofs.History.{Stood, stood, ends_after, at_prefix, ended_within, rank_same, rank_low, one_rank}
+use Rattle.cpu_words.specs.Common.{KeepsPlace, did, key_with, link_answer, MayLoadLink, MayLoadSearched, IsAtWord, every_word, cpu_after_record_word, HasLoadedLink, HasLoadedWord, HasFollowed, PassTells, IsShownCpu, cpu_after_seek, search_for}
+use Rattle.cpu_words.proofs.shown.Seeing.{attached_prefix, seen_of}
 use Rattle.passive_list.specs.Common.{IsLoad, IsWalkLoad, GoesOnBySoMany, GoesOnByLoads, HasSearchedFor, SearchesOnce, HasWalkedBy, HasGoneOverBy, nobody, WasLive, Seen, entry_seen, search_at, IsUnderWay, cpu_with_search_at, after_visit, HasVisitedFrom, HasVisited, HasTaken, IsOn, IsAtLink, HasLookedUp}
+use Rattle.passive_list.proofs.Ranks.{rank_out}
 use Rattle.passive_list.proofs.Rows.{one_item}
+use Rattle.registry_values.proofs.Fit.{Ranges, ranges}
 
 more_items : (P : LogItem → Type 0) (m n : ℕ) (old between new : List LogItem) → GoesOnBySoMany P m old between → GoesOnBySoMany P n between new → GoesOnBySoMany P (m + n) old new
 more_items P m n old between new first then = record {
@@ -111,7 +113,11 @@ same_at : (p h : List Change) (k : ℕ) → IsPrefix p h → k ≤ length p → 
 same_at p h k pre le = ap (λ l. change_at l k) (sym pre.1) ∙ at_prefix p pre.0 k le
 
 pub ends_later : (p h : List Change) (n k : ℕ) → IsPrefix p h → EndsAt p n k → EndsAt h n k
-ends_later p h n k pre ends = same_at p h k pre (at_within p k (Detach n) ends).1 ∙ ends
+ends_later p h n k pre ends = ap ended_by (same_at p h k pre (ended_within p n k ends).1) ∙ ends
+
+-- its rank stays
+pub rank_later : (p h : List Change) (n : ℕ) → IsPrefix p h → n ≤ length p → rank_at h n ≡ rank_at p n
+rank_later p h n pre le = rank_same h p n (same_at p h n pre le)
 
 pub stands_later : (p h : List Change) (from t : ℕ) (e : Entry) → IsPrefix p h → from ≤ length p → StandsOn p from (length p) t e → StandsOn h from (length h) t e
 stands_later p h from t e pre le stands = record {
@@ -120,17 +126,40 @@ stands_later p h from t e pre le stands = record {
   begun = omega (arith, stands.begun, prefix_length p h pre);
   unended = λ k ends. ⊎_elim
       (λ (lt : length p < k). omega (arith, lt, le))
-      (λ (ge : k ≤ length p). stands.unended k (sym (same_at p h k pre ge) ∙ ends))
+      (λ (ge : k ≤ length p). stands.unended k (ap ended_by (sym (same_at p h k pre ge)) ∙ ends))
       (cases_lt (length p) k);
 }
 
 -- live at a later point of a longer pass, so at an earlier one of the pass
 pub live_before : (p h : List Change) (j k : ℕ) (e : Entry) → IsPrefix p h → e.number ≤ j → j ≤ length p → j ≤ k → IsLiveAt h k e → IsLiveAt p j e
 live_before p h j k e pre begun within le live = record {
-  attached = sym (same_at p h e.number pre (omega (arith, begun, within))) ∙ live.attached;
+  attached = ap brought_by (sym (same_at p h e.number pre (omega (arith, begun, within)))) ∙ live.attached;
   begun = begun;
   unended = λ i ends. omega (arith, le, live.unended i (ends_later p h e.number i pre ends));
 }
+
+-- live at a point of a pass, so at that point of a longer one
+pub live_longer : (p h : List Change) (k : ℕ) (e : Entry) → IsPrefix p h → k ≤ length p → IsLiveAt p k e → IsLiveAt h k e
+live_longer p h k e pre le live = record {
+  attached = attached_prefix p h e pre live.attached;
+  begun = live.begun;
+  unended = λ i ends. ⊎_elim
+      (λ (lt : length p < i). omega (arith, lt, le))
+      (λ (ge : i ≤ length p). live.unended i (ap ended_by (sym (same_at p h i pre ge)) ∙ ends))
+      (cases_lt (length p) i);
+}
+
+-- a place that is kept in a longer pass is kept in a shorter one
+pub kept_before : (p h : List Change) (from : ℕ) (f : Entry) → IsLegal h → IsPrefix p h → from ≤ length p → KeepsPlace h from f → KeepsPlace p from f
+kept_before p h from f legal pre low kept =
+    let below : rank_at h kept.now.number ≤ length p = omega (arith, kept.rank, rank_low h legal f.number, kept.live.begun, low) in
+    let s : Stood h (length p) kept.now = stood h legal (length h) (length p) kept.now kept.stays below (prefix_length p h pre) in
+    record {
+      live = live_before p h from from f pre kept.live.begun low (omega arith) kept.live;
+      now = s.entry;
+      stays = live_before p h (length p) (length p) s.entry pre s.live.begun (omega arith) (omega arith) s.live;
+      rank = sym (rank_later p h s.entry.number pre s.live.begun) ∙ (s.rank ∙ (kept.rank ∙ rank_later p h f.number pre (omega (arith, kept.live.begun, low))));
+    }
 
 -- an entry on which a search may stand was live at some point since the search began
 pub stood_was_live : (h : List Change) (from t : ℕ) (e : Entry) → IsLegal h → from ≤ length h → StandsOn h from (length h) t e → WasLive h from (length h) e
@@ -140,6 +169,18 @@ stood_was_live h from t e legal low stands = ⊎_elim
     (λ (ge : e.number ≤ from). let live : IsLiveAt h from e = record { attached = stands.attached; begun = ge; unended = stands.unended } in
     record { point = from; from_on = omega arith; up_to = low; live = live })
     (cases_lt from e.number)
+
+-- what it may stand on is what is live throughout, where their ranks are one
+pub one_stood : (h : List Change) (from t : ℕ) (e f : Entry) → IsLegal h → from ≤ length h → StandsOn h from (length h) t e → IsLiveAt h from f → IsLiveAt h (length h) f
+    → rank_at h e.number ≡ rank_at h f.number → e ≡ f
+one_stood h from t e f legal low stands first last same =
+    let was = stood_was_live h from t e legal low stands in
+    let live : IsLiveAt h was.point f = record {
+      attached = first.attached;
+      begun = omega (arith, first.begun, was.from_on);
+      unended = λ p ends. omega (arith, last.unended p ends, was.up_to);
+    } in
+    one_rank h legal was.point e f was.live live same
 
 -- A search: its loads in one slot, and from one slot to the next.
 
@@ -242,9 +283,34 @@ on_slot key x y (suc t) last some at = let same : suc t - 1 ≡ t = omega arith 
 pub on_way : (key : Key) (x y : CpuView) (t last : ℕ) → IsOn key x t last y → IsUnderWay y key (length x.pass) (AtNumber t)
 on_way key x y t last on = ap (λ (v : CpuView). v.search) on.is
 
--- the number there is below the last one
-pub number_falls : (key : Key) (x y z : CpuView) (t n last : ℕ) (b : Bool) → IsOn key x t last y → HasVisited y key t n b z → n < last
-number_falls key x y z t n last b on had = let v = had (length x.pass) (on_way key x y t last on) in omega (arith, on.below v.entry v.stands, v.number)
+-- the rank there is below the last one
+pub rank_falls : (key : Key) (x y z w : CpuView) (t n m last : ℕ) → IsOn key x t last y → HasVisited y key t n false z → HasLoadedLink z m w → rank_at w.pass n < rank_at y.pass last
+rank_falls key x y z w t n m last on had loaded_link =
+    let v = had (length x.pass) (on_way key x y t last on) in
+    let followed = loaded_link (search_at key (length x.pass) (AtNext t)) (ap (λ (u : CpuView). u.search) v.is) in
+    let more : IsPrefix y.pass w.pass = subst (λ (p : List Change). IsPrefix p w.pass) (ap (λ (u : CpuView). u.pass) v.is) followed.pass in
+    let same : rank_at w.pass v.entry.number ≡ rank_at y.pass v.entry.number = rank_later y.pass w.pass v.entry.number more v.stands.begun in
+    omega (arith, on.below v.entry v.stands, same, ap (rank_at w.pass) v.number)
+
+-- the head was loaded: all ranks are below a number that no history has
+pass_low : (y : CpuView) (shown : IsShownCpu y) → length y.pass ≤ shown.g.settings.change_limit
+pass_low y shown =
+    let g = shown.g in
+    let seen = seen_of g y shown.good shown.shown in
+    let n : ℕ = seen_at g y.id in
+    omega (arith, ap (λ (l : List Change). length l) seen.pass, prefix_length (take n g.history) g.history (drop n g.history, take-append-drop n g.history), shown.good.holds.room)
+
+pub link_begun : (key : Key) (x y : CpuView) (m above : ℕ) → ((z : Settings) → Ranges z → z.change_limit < above) → IsShownCpu y → HasFollowed (cpu_after_seek key x) (search_for key x) m y → IsAtLink key x m above y
+link_begun key x y zero above high shown had = record { pass = had.pass; is = had.is; lawful = had.holds; tells = had.tells }
+link_begun key x y (suc t) above high shown had = record {
+  pass = had.pass;
+  is = had.is;
+  slot = had.holds;
+  below = λ e stands.
+      let low : length y.pass < above = omega (arith, pass_low y shown, high shown.g.settings (ranges shown.g.settings shown.good.holds.fit)) in
+      omega (arith, rank_low y.pass had.tells.legal e.number, stands.begun, low, rank_out y.pass above low);
+  tells = had.tells;
+}
 
 -- the view after the visit
 left_slot : (key : Key) (x y z : CpuView) (t n last : ℕ) (b : Bool) → IsOn key x t last y → HasVisitedFrom y key (length x.pass) t n b z
@@ -269,7 +335,7 @@ followed_on key x y z w t n (suc u) last on v had =
       pass = prefix_trans x.pass y.pass w.pass on.pass (subst (λ p. IsPrefix p w.pass) pass had.pass);
       is = had.is ∙ ap (λ (i : CpuView). record i { pass = w.pass; search = Some (search_at key (length x.pass) (AtNumber u)) }) left;
       slot = (subst (λ (n : ℕ). u < n) (ap (λ (i : CpuView). i.settings.slots) left) had.holds.0, had.holds.1);
-      below = λ f stands. omega (arith, had.descends t refl v.entry f (subst (λ (p : List Change). StandsOn p (length x.pass) (length p) t v.entry) (sym pass) v.stands) stands, v.number);
+      below = λ f stands. omega (arith, had.descends t refl v.entry f (subst (λ (p : List Change). StandsOn p (length x.pass) (length p) t v.entry) (sym pass) v.stands) stands, ap (rank_at w.pass) v.number);
       tells = subst (λ (b : Option ℕ). PassTells b (length x.pass) w.pass) (ap (λ (u : CpuView). u.begin) left) had.tells;
     }
 

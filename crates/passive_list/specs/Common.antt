@@ -6,9 +6,9 @@ pub use Rattle.passive_list.specs.declared.place.Found.{Found}
 pub use Rattle.passive_list.specs.declared.place.NumberedCount.{NumberedCount}
 pub use Rattle.passive_list.specs.Cpus.{AreNewRows, DepthAgrees, HoldsFound, IsKept, IsOurCpu, IsPlaceOf, NetAgree, OnCpu, OnPlainCpu, PassiveAgree, SectionAgrees, no_found, no_place, place_at}
 pub use Rattle.passive_list.specs.Cpus.{HasHeardOn, HeardAndTold, WasShown, as_teller, cpu_after_tell, has_heard, has_told, AnswersEnter, HasEnteredOn, HasExitedOn, may_begin}
-pub use Rattle.passive_list.specs.Draining.{AreHeld, HasAttachedKeeping, HasCollectedInto, HasFreed, HasGivenUp, keeper_after_collect, kept_slot, HasVacated, IsDrainedOn, is_drained_row}
-pub use Rattle.passive_list.specs.Walks.{AreStoodOn, GoesOnAt, HasGoneByFrom, HasGoneByOne, HasGoneOver, IsGoingOver, IsLiveSince, MayGoBy, view_at_link, HasWalked, IsWritten, WasLive}
-pub use Rattle.passive_list.specs.Keepers.{AreSized, HasRows, IsAtRest, IsOurKeeper, MarksAgree, OnKeeper, OnPlainKeeper, RowAgrees, RowsAgree, no_row, on_keeper, row_at, state_of, states_of}
+pub use Rattle.passive_list.specs.Draining.{AreHeld, HasAttachedKeeping, HasReplacedKeeping, HasCollectedInto, HasFreed, HasGivenUp, keeper_after_collect, kept_slot, HasVacated, IsDrainedOn, is_drained_row}
+pub use Rattle.passive_list.specs.Walks.{AreStoodOn, GoesOnAt, HasGoneByFrom, HasGoneByOne, HasGoneOver, HasPlaceOf, IsGoingOver, MayGoBy, view_at_link, HasWalked, IsWritten, WasLive}
+pub use Rattle.passive_list.specs.Keepers.{AreRanksOf, AreSized, HasRows, IsAtRest, IsOurKeeper, MarksAgree, OnKeeper, OnPlainKeeper, RowAgrees, RowsAgree, no_row, on_keeper, row_at, state_of, states_of}
 pub use Rattle.passive_list.specs.Keepers.{total_or_bias, GoesOnBy, HasOwnLog}
 pub use Rattle.passive_list.specs.Publishing.{link_to, newer_of, older_of, place_of, HasAttached, HasEntry, LogsAttach, MayAttach, logged_counts, keeper_after_publish}
 pub use Rattle.passive_list.specs.Publishing.{keeper_after_stores, with_counts, with_row, AreFresh, AreSnapshots, AreWritten, HasDetached, LogsDetach, LogsSnapshots, with_snapshots}
@@ -17,7 +17,8 @@ pub use Rattle.passive_list.specs.Lookups.{HasLookedUp, HasMissed, HasTaken, Has
 pub use Rattle.passive_list.specs.Memories.{HasCleared, HasForgotten, HasNumbered, IsCount, IsMiss, IsOfRow, IsRow, IsTrueMiss, KeepsOthers, Memory, Missed, Misses, Recalls, RecallsAt, Remembers}
 pub use Rattle.passive_list.specs.Memories.{WasAbsent, entry_of, hint_of, hinted, is_for, keeps, memo_at, memo_of, miss_at, miss_of, missed_as, no_hint, no_memo, no_memory, no_miss, with_miss}
 pub use Rattle.passive_list.specs.Memories.{with_seen}
-pub use Rattle.passive_list.specs.Remembering.{HasRecalledHeadOn, HasRecalledOn, HasRefoundAs, HasRefoundOn, FindsAfterHead, FindsAfterWord, FindsAndRemembers, FindsBy, FindsInside, FindsInsideBy}
-pub use Rattle.passive_list.specs.Remembering.{FindsWhatStays, HasFoundAnew, HasFoundByMemory, HasFoundInSection, HasFoundInside, HasFoundKept, HasFoundRemembered, HasRecalledAs, HasRecalledByMemory}
+pub use Rattle.passive_list.specs.Remembering.{HasRecalledHeadOn, HasRecalledOn, HasRefoundAs, HasRefoundOn, FindsAfterHead, FindsAfterWord, FindsAndRemembers, FindsBy, FindsInside}
+pub use Rattle.passive_list.specs.Remembering.{FindsWhatIsKept, FindsWhatStays, HasFoundAnew, HasFoundByMemory, HasFoundInSection, HasFoundKept, HasRecalledAs, HasRecalledByMemory}
 pub use Rattle.passive_list.specs.Remembering.{HasRecalledInVain, HasSeen, IsAbsentAt, RecallsBy, RecallsSeen, RefindsSeen, RemembersAnswer}
+pub use Rattle.passive_list.specs.Replacing.{HasReplaced, HasReplacedIn, LogsReplace, MayReplace, keeper_after_hide, keeper_after_place, keeper_after_snapshots, rows_replaced, rows_taken}
 pub use Rattle.passive_list.specs.References.{IsOurReference, OnPlainRef}

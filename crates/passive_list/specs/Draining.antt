@@ -8,6 +8,7 @@ use Rattle.cpu_words.specs.Common.{IsAttachedKeeping, IsFreedFrom, keeper_after_
 use Rattle.passive_list.specs.declared.keeper.KeptSlot.{KeptSlot}
 use Rattle.passive_list.specs.Keepers.{OnKeeper, state_of, total_or_bias}
 use Rattle.passive_list.specs.Publishing.{HasAttached}
+use Rattle.passive_list.specs.Replacing.{HasReplacedIn}
 
 -- Collecting
 
@@ -46,6 +47,13 @@ pub record HasGivenUp (a : OnKeeper) (v : ReferenceView) (b : OnKeeper) : Type 0
 pub record HasAttachedKeeping (a : OnKeeper) (v : ReferenceView) (e : Entry) (b : OnKeeper) : Type 0 where
   pub kept : JoinsBy (Keep e.slot) (Keeper a.view) (Reference v) (Keeper (keeper_after_keep a.view e.slot v))
   pub attached : HasAttached (record a { view = keeper_after_keep a.view e.slot v }) e b
+  -- by the log
+  pub keeping : IsAttachedKeeping e.slot e.number v.entry.number b.log
+
+-- the slot keeps the reference, and then the entry takes the place of f in the slot u
+pub record HasReplacedKeeping (a : OnKeeper) (v : ReferenceView) (u : ℕ) (f e : Entry) (b : OnKeeper) : Type 0 where
+  pub kept : JoinsBy (Keep e.slot) (Keeper a.view) (Reference v) (Keeper (keeper_after_keep a.view e.slot v))
+  pub replaced : HasReplacedIn (record a { view = keeper_after_keep a.view e.slot v }) u f e b
   -- by the log
   pub keeping : IsAttachedKeeping e.slot e.number v.entry.number b.log
 

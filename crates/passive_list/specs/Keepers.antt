@@ -2,9 +2,10 @@
 use Rattle.std.specs.Prelude.{◌≡◌, ℕ, ◌+◌, ◌*◌, ◌<◌, ◌≤◌, List, length, map, replicate, slice_index_or, None, IsTrue, unwrap_or, ◌++◌}
 use Rattle.std.specs.List.{All}
 use Rattle.atomic_table.specs.Seated.{TableId}
-use Rattle.passive_list.specs.Types.{Mark, Settings, Slot, Vacant, Rest, KeeperView, LogItem, Change, Entry, Retired, Keeper}
+use Rattle.passive_list.specs.Types.{Mark, Settings, Slot, Vacant, Rest, KeeperView, LogItem, Change, Entry, Live, Retired, Keeper}
 use Rattle.registry_values.specs.Common.{are_fit, live_count, no_mark, slot_at, bias}
 use Rattle.protocol.specs.Common.{AreRows, mark_at, total_at, kept_at}
+use Rattle.protocol.specs.History.{rank_at}
 use Rattle.cpu_words.specs.Common.{Named, IsShown, changes_in, occupant, occupant_of, IsSnapped, AreMarksOf, AreSlotsOf, IsShownAfter, WordsGrow, keeper_with_note}
 use Rattle.passive_list.specs.declared.keeper.KeeperRows.{KeeperRows}
 use Rattle.passive_list.specs.declared.keeper.KeptSlot.{KeptSlot}
@@ -22,7 +23,7 @@ pub record OnPlainKeeper : Type 0 where
 
 -- what is past the rows
 abbrev pub no_row : KeptSlot
-no_row = record { state = Vacant; total = None; keeps = None }
+no_row = record { state = Vacant; total = None; keeps = None; rank = 0 }
 
 abbrev pub row_at : List KeptSlot → ℕ → KeptSlot
 row_at rows t = slice_index_or rows t no_row
@@ -32,6 +33,10 @@ state_of r = r.state
 
 abbrev pub states_of : List KeptSlot → List Slot
 states_of rows = map state_of rows
+
+-- the rows of the live entries have their ranks
+abbrev pub AreRanksOf : (ℕ → ℕ) → List KeptSlot → Type 0
+AreRanksOf ranks rows = (t : ℕ) (e : Entry) → (row_at rows t).state ≡ Live e → (row_at rows t).rank ≡ ranks e.number
 
 -- the total of a slot, by its row: None is the bias
 abbrev pub total_or_bias : KeptSlot → ℕ
@@ -43,6 +48,7 @@ pub record RowAgrees (k : KeeperView) (t : ℕ) (r : KeptSlot) : Type 0 where
   pub keeps : r.keeps ≡ kept_at k.keeps t
   -- nothing is counted in a vacant slot's total
   pub unused : r.state ≡ Vacant → total_or_bias r ≡ bias
+  pub rank : (e : Entry) → r.state ≡ Live e → r.rank ≡ rank_at k.history e.number
 
 -- each slot has its place in each list
 pub record AreSized (n : ℕ) (k : KeeperView) : Type 0 where

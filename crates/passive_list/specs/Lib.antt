@@ -6,6 +6,7 @@ pub mod Lookups
 pub mod Types
 pub mod Keepers
 pub mod Publishing
+pub mod Replacing
 pub mod Walks
 pub mod Draining
 pub mod References

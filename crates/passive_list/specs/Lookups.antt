@@ -8,6 +8,7 @@ use Rattle.protocol.specs.declared.event.RecordOf.TheVariants.{Search as OfSearc
 use Rattle.cpu_words.specs.Common.{did, PassTells}
 use Rattle.passive_list.specs.declared.lookup.Seen.{Seen}
 use Rattle.passive_list.specs.Cpus.{OnCpu, HasEnteredOn, HasExitedOn}
+use Rattle.protocol.specs.History.{rank_at}
 
 -- Which events a search makes, by the log of the CPU's seat: it begins once, then there are loads alone, and the last one replies its answer. A walk is such a search too.
 
@@ -111,12 +112,12 @@ pub record HasMissed (key : Key) (x y : CpuView) : Type 0 where
   pub lawful : IsLawful y.pass (length x.pass) (length y.pass) key None
   pub tells : PassTells x.begin (length x.pass) y.pass
 
--- it is to visit the slot t, whose entry has a number below `last`
+-- it is to visit the slot t, whose entry has a rank below that of `last`, a number above all or that of the entry visited before
 pub record IsOn (key : Key) (x : CpuView) (t last : ℕ) (y : CpuView) : Type 0 where
   pub pass : IsPrefix x.pass y.pass
   pub is : y ≡ record x { pass = y.pass; search = Some (search_at key (length x.pass) (AtNumber t)) }
   pub slot : (t < x.settings.slots) × (t < MOST_SLOTS)
-  pub below : (e : Entry) → StandsOn y.pass (length x.pass) (length y.pass) t e → e.number < last
+  pub below : (e : Entry) → StandsOn y.pass (length x.pass) (length y.pass) t e → rank_at y.pass e.number < rank_at y.pass last
   pub tells : PassTells x.begin (length x.pass) y.pass
 
 -- a link is 0 at the end of the list, else a slot plus 1

@@ -1,34 +1,31 @@
 -- An entry is published or retired: what changes of the keeper, and which live entries there are beside it.
 use Rattle.std.specs.Prelude.{ℕ, ◌+◌, Bool, true, ◌&&◌, nat_lt, if◌then◌else◌, Option, Some, None, ◌≡◌, zero, suc, ◌<◌, ◌≤◌, List, [], ◌++◌, length, slice_index_or, slice_set, IsTrue, false, ◌⊎◌, replicate}
-use Rattle.passive_list.specs.Types.{Slot, Vacant, Live, Retired, Entry, Attach, StoreSlot, StoreNext, Publish, Show, Done, Settings, RecordWords, KeeperView, Keeper, LogItem, Hide, Unpublish, Snapshot, Word, Mark, Rest, MOST_CPUS}
-use Rattle.registry_values.specs.Common.{bias, key_of, is_taken, live_count, slot_at, is_key, no_mark}
+use Rattle.passive_list.specs.Types.{Vacant, Live, Retired, Entry, Attach, StoreSlot, StoreNext, Publish, Show, Done, Settings, RecordWords, KeeperView, Keeper, LogItem, Hide, Unpublish, Snapshot, Word, Mark, Rest, MOST_CPUS}
+use Rattle.registry_values.specs.Common.{bias, is_live, key_of, is_taken, live_count, slot_at, is_key, no_mark}
 use Rattle.protocol.specs.Common.{with_biases, kept_at, keeps_rightly, words_of, after_change, snapshot_mark}
 use Rattle.cpu_words.specs.Common.{LeadsBelow, Makes, did, keeper_after_live, IsBefore, keeper_after_unpublish}
 use Rattle.passive_list.specs.declared.links.At.{At}
 use Rattle.passive_list.specs.declared.keeper.KeptSlot.{KeptSlot}
 use Rattle.passive_list.specs.Keepers.{OnKeeper, IsAtRest, RowsAgree, states_of}
+use Rattle.protocol.specs.History.{rank_at}
 
--- The live entries by number, slot by slot: the newest below a number, and the oldest above it.
+-- The live entries by rank, slot by slot: the newest below a rank, and the oldest above it.
 
 abbrev pub is_newer : ℕ → Option At → Bool
 is_newer n None = true
-is_newer n (Some at) = nat_lt at.number n
+is_newer n (Some at) = nat_lt at.rank n
 
--- the newest below the number n, as the slot t shows x
-abbrev pub newer_of : ℕ → ℕ → Option At → Slot → Option At
-newer_of n t best Vacant = best
-newer_of n t best (Live e) = if nat_lt e.number n && is_newer e.number best then Some (record { slot = t; number = e.number }) else best
-newer_of n t best (Retired e) = best
+-- the newest below the rank n, as r is the row of the slot t
+abbrev pub newer_of : ℕ → ℕ → Option At → KeptSlot → Option At
+newer_of n t best r = if is_live r.state && (nat_lt r.rank n && is_newer r.rank best) then Some (record { slot = t; rank = r.rank }) else best
 
 abbrev pub is_older : ℕ → Option At → Bool
 is_older n None = true
-is_older n (Some at) = nat_lt n at.number
+is_older n (Some at) = nat_lt n at.rank
 
--- the oldest above the number n, as the slot t shows x
-abbrev pub older_of : ℕ → ℕ → Option At → Slot → Option At
-older_of n t best Vacant = best
-older_of n t best (Live e) = if nat_lt n e.number && is_older e.number best then Some (record { slot = t; number = e.number }) else best
-older_of n t best (Retired e) = best
+-- the oldest above the rank n, as r is the row of the slot t
+abbrev pub older_of : ℕ → ℕ → Option At → KeptSlot → Option At
+older_of n t best r = if is_live r.state && (nat_lt n r.rank && is_older r.rank best) then Some (record { slot = t; rank = r.rank }) else best
 
 -- 0 for the end, else the slot plus 1
 abbrev pub link_to : Option At → ℕ
@@ -81,7 +78,7 @@ pub record MayAttach (a : Settings) (k : KeeperView) (rows : List KeptSlot) (e :
 -- exactly that, if the link leads to the newest live entry there was: all words were stored, then the event made, and then the entry shown
 pub record HasEntry (k : KeeperView) (e : Entry) (l : KeeperView) : Type 0 where
   pub link : ℕ
-  pub leads : LeadsBelow k.slots e.number link
+  pub leads : LeadsBelow (rank_at k.history) k.slots (suc (length k.history)) link
   pub made : Makes (Publish e.slot) Done (Keeper (keeper_after_stores k e link)) (Keeper (keeper_after_publish k e link))
   pub shown : Makes (Show e.slot) Done (Keeper (keeper_after_publish k e link)) (Keeper l)
   pub view : l ≡ keeper_after_live (keeper_after_publish k e link) e.slot e.number
@@ -109,7 +106,7 @@ logged_stores cpus e link log = logged_counts e.slot cpus (logged_row e log) ++ 
 -- then the head and the live word: these are all events of an attach, in this order, and the link leads to the newest entry that was live before
 pub record LogsAttach (k : KeeperView) (e : Entry) (old new : List LogItem) : Type 0 where
   pub link : ℕ
-  pub leads : LeadsBelow k.slots e.number link
+  pub leads : LeadsBelow (rank_at k.history) k.slots (suc (length k.history)) link
   pub log : new ≡ (logged_stores k.settings.cpus e link old ++ did (Publish e.slot) Done) ++ did (Show e.slot) Done
 
 -- An entry is retired: what changes of the keeper.
@@ -137,9 +134,9 @@ with_snapshots k t marks = record k { marks = slice_set k.marks t marks; due = R
 -- the entry e of the slot t is hidden, then unlinked and retired, and its marks are the snapshots that were taken
 pub record HasDetached (a : OnKeeper) (t : ℕ) (e : Entry) (b : OnKeeper) : Type 0 where
   pub before : Option ℕ
-  pub is_before : IsBefore a.view.slots e.number before
+  pub is_before : IsBefore (rank_at a.view.history) a.view.slots (rank_at a.view.history e.number) before
   pub link : ℕ
-  pub leads : LeadsBelow a.view.slots e.number link
+  pub leads : LeadsBelow (rank_at a.view.history) a.view.slots (rank_at a.view.history e.number) link
   pub hidden : Makes (Hide t) Done (Keeper a.view) (Keeper (keeper_after_live a.view t 0))
   pub made : Makes (Unpublish t) Done (Keeper (keeper_after_live a.view t 0)) (Keeper (keeper_after_unpublish (keeper_after_live a.view t 0) t e before link))
   pub marks : List Mark

@@ -3,7 +3,7 @@ use Rattle.std.specs.Prelude.{◌≡◌, ◌==◌, ℕ, Bool, true, false, ◌++
 use mathlib.Core.List.{IsPrefix}
 use Rattle.passive_list.specs.Types.{Entry, Key, Recall, RecallHead, Refind, Word, Change, MOST_SLOTS}
 use Rattle.registry_values.specs.Common.{key_of}
-use Rattle.protocol.specs.Common.{IsLookup, IsNewestAt, entry_with, EndsAt, IsAttached}
+use Rattle.protocol.specs.Common.{IsLiveAt, IsLookup, IsNewestAt, entry_with, EndsAt, IsAttached, IsKept}
 use Rattle.cpu_words.specs.Common.{HasWholePass, IsLiveNumber, did}
 use Rattle.passive_list.specs.declared.lookup.Seen.{Seen}
 use Rattle.passive_list.specs.Cpus.{OnCpu, OnPlainCpu}
@@ -126,9 +126,6 @@ FindsInsideBy (Some s) key a b answer = ((answer ≡ Some s) × HasRefoundAs key
 abbrev pub FindsInside : Key → OnCpu → OnCpu → Option Seen → Type 0
 FindsInside key a b answer = (kept : Option Seen) × Recalls a.memory key kept × FindsInsideBy kept key a b answer
 
-abbrev pub HasFoundInside : Key → OnCpu → OnCpu → Option Entry → Type 0
-HasFoundInside key a b answer = (seen : Option Seen) × (answer ≡ entry_seen key seen) × FindsInside key a b seen
-
 -- what a load of what the CPU remembers of the key tells: nothing, or s
 abbrev pub RecallsBy : Option Seen → Key → OnCpu → OnCpu → Option Seen → Type 0
 RecallsBy None key a b answer = (answer ≡ None) × (b ≡ a)
@@ -147,9 +144,10 @@ FindsBy (Some s) key a b answer = ((answer ≡ Some s) × HasRecalledAs key a b 
 abbrev pub HasFoundByMemory : Key → OnCpu → OnCpu → Option Seen → Type 0
 HasFoundByMemory key a b answer = (kept : Option Seen) × Recalls a.memory key kept × FindsBy kept key a b answer
 
-abbrev pub HasFoundRemembered : Key → OnCpu → OnCpu → Option Entry → Type 0
-HasFoundRemembered key a b answer = (seen : Option Seen) × (answer ≡ entry_seen key seen) × HasFoundByMemory key a b seen
-
 -- An entry with the key that was attached in h, and isn't detached in g, is the answer.
 abbrev pub FindsWhatStays : Key → List Change → List Change → Option Entry → Type 0
 FindsWhatStays key h g answer = (e : Entry) → IsAttached h e → key_of e ≡ key → ((p : ℕ) → EndsAt g e.number p → ⊥) → answer ≡ Some e
+
+-- An entry has the key at the end of h, and no detach in g since is of it: the answer is an entry. A replacement is no detach.
+abbrev pub FindsWhatIsKept : Key → List Change → List Change → Option Entry → Type 0
+FindsWhatIsKept key h g answer = (e : Entry) → IsLiveAt h (length h) e → key_of e ≡ key → IsKept g (length h) (length g) key → answer ≡ None → ⊥

@@ -1,6 +1,6 @@
 -- The types of the crates beneath, passed on from one place. Declares nothing.
 pub use Rattle.registry_values.specs.declared.entry.Change.{Change}
-pub use Rattle.registry_values.specs.declared.entry.Change.TheVariants.{Attach, Detach}
+pub use Rattle.registry_values.specs.declared.entry.Change.TheVariants.{Attach, Detach, Replace}
 pub use Rattle.registry_values.specs.declared.entry.Entry.{Entry}
 pub use Rattle.registry_values.specs.declared.entry.Kind.{Kind}
 pub use Rattle.registry_values.specs.declared.entry.Kind.TheVariants.{Driver, Iface}
@@ -16,7 +16,7 @@ pub use Rattle.registry_values.specs.declared.slot.Slot.{Slot}
 pub use Rattle.registry_values.specs.declared.slot.Slot.TheVariants.{Live, Retired, Vacant}
 pub use Rattle.protocol.specs.declared.event.Event.{Event}
 pub use Rattle.protocol.specs.declared.event.Event.TheVariants.{Collect, CountAdd, CountDown, Enter, Exit, Hear, JoinKeeper, JoinRef, Keep, KeptSub, LoadLink, LoadRecord, Look, PassiveAdd, StoreNext, StoreSlot}
-pub use Rattle.protocol.specs.declared.event.Event.TheVariants.{PassiveLook, PassiveSub, Publish, Seek, Snapshot, SplitBack, SplitRef, Tell, TotalAdd, TotalSub, Unpublish, Confirm, Hide, Recall, RecallHead, Refind, Show, TakeBack, Try, Vacate}
+pub use Rattle.protocol.specs.declared.event.Event.TheVariants.{PassiveLook, PassiveSub, Publish, Republish, Seek, Snapshot, SplitBack, SplitRef, Tell, TotalAdd, TotalSub, Unpublish, Confirm, Hide, Recall, RecallHead, Refind, Show, TakeBack, Try, Vacate}
 pub use Rattle.protocol.specs.declared.event.RecordOf.TheVariants.{Compared, Passive}
 pub use Rattle.protocol.specs.declared.event.Reply.{Reply}
 pub use Rattle.protocol.specs.declared.event.Reply.TheVariants.{Collected, Done, Found, Missed, Ref, Word}

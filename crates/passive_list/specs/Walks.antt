@@ -4,13 +4,18 @@ use Rattle.std.specs.List.{AllPairs, Contains}
 use mathlib.Core.List.{IsPrefix}
 use Rattle.passive_list.specs.Types.{Entry, Change, MOST_SLOTS, AtNext, AtNumber, CpuView}
 use Rattle.protocol.specs.Common.{IsLiveAt, MayHold, StandsOn}
-use Rattle.cpu_words.specs.Common.{PassTells}
+use Rattle.cpu_words.specs.Common.{KeepsPlace, PassTells}
 use Rattle.passive_list.specs.Cpus.{OnCpu}
 use Rattle.passive_list.specs.Lookups.{HasGoneOverBy, search_at, IsUnderWay, cpu_with_search_at, nobody}
+use Rattle.protocol.specs.History.{rank_at}
 
 -- e is live at each point from `from` up to `to`: it is at both, and an entry ends once
 abbrev pub IsLiveThroughout : List Change → ℕ → ℕ → Entry → Type 0
 IsLiveThroughout h from to e = IsLiveAt h from e × IsLiveAt h to e
+
+-- some entry of the row stands in f's place of the list, as the pass h tells: f itself, or one that came there by replacements
+abbrev pub HasPlaceOf : List Change → List Entry → Entry → Type 0
+HasPlaceOf h row f = (e : Entry) × Contains row e × (rank_at h e.number ≡ rank_at h f.number)
 
 -- e is live at some point from `from` up to `to`
 pub record WasLive (h : List Change) (from to : ℕ) (e : Entry) : Type 0 where
@@ -19,9 +24,9 @@ pub record WasLive (h : List Change) (from to : ℕ) (e : Entry) : Type 0 where
   pub up_to : point ≤ to
   pub live : IsLiveAt h point e
 
--- so no entry is there twice
-abbrev pub AreNewestFirst : List Entry → Type 0
-AreNewestFirst row = AllPairs (λ (e f : Entry). f.number < e.number) row
+-- by ranks, as h tells them; so no entry is there twice, and of no place of the list two
+abbrev pub AreNewestFirst : List Change → List Entry → Type 0
+AreNewestFirst h row = AllPairs (λ (e f : Entry). rank_at h f.number < rank_at h e.number) row
 
 -- only the pass changes and the last found entry, which is cleared, by one search alone; the row has the registry's entries at points not
 -- before what the CPU had seen
@@ -30,10 +35,12 @@ pub record HasWalked (a b : OnCpu) (row : List Entry) : Type 0 where
   pub is : b ≡ record a { view = record a.view { pass = b.view.pass; found = None }; log = b.log }
   -- each entry that was live from the start to the end is in the row
   pub all : (e : Entry) → IsLiveThroughout b.view.pass (length a.view.pass) (length b.view.pass) e → Contains row e
+  -- and of each place that had an entry at the start and has one at the end one is, though an entry be replaced meanwhile
+  pub places : (f : Entry) → KeepsPlace b.view.pass (length a.view.pass) f → HasPlaceOf b.view.pass row f
   -- each in it was live in between, and the open section may hold it
   pub each : (e : Entry) → Contains row e → WasLive b.view.pass (length a.view.pass) (length b.view.pass) e
   pub held : (e : Entry) (s : ℕ) → Contains row e → a.view.begin ≡ Some s → MayHold b.view.pass s e
-  pub newest_first : AreNewestFirst row
+  pub newest_first : AreNewestFirst b.view.pass row
   -- the search goes by as many entries as are in the row
   pub log : HasGoneOverBy a.view.id a.view.settings.slots (length row) a.log b.log
 
@@ -48,7 +55,7 @@ pub record IsWritten {P : Type 0} (written : Entry → P) (met : List Entry) (ol
 pub record AreStoodOn (h : List Change) (from slots : ℕ) (es : List Entry) : Type 0 where
   pub stands : (e : Entry) → Contains es e → StandsOn h from (length h) e.slot e
   pub slot : (e : Entry) → Contains es e → (e.slot < slots) × (e.slot < MOST_SLOTS)
-  pub newest_first : AreNewestFirst es
+  pub newest_first : AreNewestFirst h es
 
 -- the search for nobody, begun where the pass had `from` changes, is to go by the entry of the slot t
 pub record MayGoBy (x : CpuView) (t : ℕ) : Type 0 where
@@ -69,15 +76,11 @@ abbrev pub view_at_link : CpuView → ℕ → List Change → CpuView
 view_at_link x zero p = record x { pass = p; search = None; found = None }
 view_at_link x (suc t) p = record x { pass = p; search = Some (search_at nobody (length x.pass) (AtNumber t)) }
 
--- f has been live since `from`, as the pass h tells
-abbrev pub IsLiveSince : List Change → ℕ → Entry → Type 0
-IsLiveSince h from f = IsLiveAt h from f × IsLiveAt h (length h) f
-
--- what a link leads to, after es: each entry that has been live since is among them or not yet gone past
+-- what a link leads to, after es: each place that has had an entry since is among theirs or not yet gone past
 abbrev pub GoesOnAt : List Change → ℕ → ℕ → List Entry → ℕ → Type 0
-GoesOnAt h from slots es zero = (f : Entry) → IsLiveSince h from f → Contains es f
+GoesOnAt h from slots es zero = (f : Entry) → KeepsPlace h from f → HasPlaceOf h es f
 GoesOnAt h from slots es (suc t) = ((t < slots) × (t < MOST_SLOTS)) × ((e : Entry) → StandsOn h from (length h) t e
-    → ((f : Entry) → Contains es f → e.number < f.number) × ((f : Entry) → IsLiveSince h from f → (f.number ≤ e.number) ⊎ Contains es f))
+    → ((f : Entry) → Contains es f → rank_at h e.number < rank_at h f.number) × ((f : Entry) → KeepsPlace h from f → (rank_at h f.number ≤ rank_at h e.number) ⊎ HasPlaceOf h es f))
 
 -- the search begun in the view x has gone by es, and has loaded the link
 pub record IsGoingOver (x : CpuView) (es : List Entry) (link : ℕ) (y : CpuView) : Type 0 where
@@ -92,6 +95,7 @@ pub record HasGoneOver (x y : CpuView) (row : List Entry) : Type 0 where
   pub pass : IsPrefix x.pass y.pass
   pub is : y ≡ record x { pass = y.pass; search = None; found = None }
   pub since : (b : ℕ) → x.begin ≡ Some b → b ≤ length x.pass
-  pub all : (e : Entry) → IsLiveSince y.pass (length x.pass) e → Contains row e
+  pub all : (e : Entry) → IsLiveThroughout y.pass (length x.pass) (length y.pass) e → Contains row e
+  pub places : (f : Entry) → KeepsPlace y.pass (length x.pass) f → HasPlaceOf y.pass row f
   pub each : (e : Entry) → Contains row e → WasLive y.pass (length x.pass) (length y.pass) e
-  pub newest_first : AreNewestFirst row
+  pub newest_first : AreNewestFirst y.pass row

@@ -1,14 +1,14 @@
 //! The keeper, the writer behind the interlock: its seat, and plain data that agree with what the seat knows.
 
 ghost use Rattle.std.specs.Prelude.{◌≡◌, ◌<◌, ◌+◌, ◌*◌, IfOk, IsTrue, length, replicate};
-ghost use Rattle.passive_list.specs.Types.{Vacant};
+ghost use Rattle.passive_list.specs.Types.{Live, Vacant};
 ghost use Rattle.registry_values.specs.Common.{are_fit, slot_at};
 ghost use Rattle.protocol.specs.Common.{kept_at};
 ghost use Rattle.cpu_words.specs.Common.{keeper_with};
 ghost use Rattle.passive_list.specs.Keepers.{AreRowsOfNew, total_or_bias};
 
 use cpu_words::KeeperSeat;
-use registry_values::{BIAS, Mark, NO_MARK, Settings};
+use registry_values::{BIAS, Entry, Mark, NO_MARK, Settings};
 use std::alloc::{AllocError, Global};
 use std::marker::Model;
 
@@ -24,6 +24,8 @@ pub struct KeptSlot {
     pub total: Option<u64>,
     /// The number of the driver that the slot keeps a reference to.
     pub keeps: Option<u64>,
+    /// The rank of the slot's live entry: where it stands on the list.
+    pub rank: u64,
 }
 
 /// The keeper of the table that its seat is of. To a contract it is that table with its settings, and what its seat knows, the slots as it has
@@ -65,6 +67,7 @@ const VACANT_SLOT: KeptSlot = KeptSlot {
     state: SlotState::Vacant,
     total: None,
     keeps: None,
+    rank: 0,
 };
 
 /// The place of a CPU's mark for a slot.
@@ -80,6 +83,14 @@ impl KeptSlot {
         ensures { result ≡ total_or_bias self.now }
     {
         self.total.unwrap_or(BIAS)
+    }
+
+    /// The slot's entry is live, with this rank.
+    pub(crate) fn make_live(&mut self, entry: Entry, rank: u64)
+        ensures { self.new ≡ record self.old { state = Live entry; rank = rank } }
+    {
+        self.state = SlotState::Live(entry);
+        self.rank = rank;
     }
 }
 

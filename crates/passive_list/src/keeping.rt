@@ -8,7 +8,7 @@ ghost use Rattle.cpu_words.specs.Common.{AreWordsOf, did};
 ghost use Rattle.passive_list.specs.Draining.{HasAttachedKeeping};
 ghost use Rattle.passive_list.specs.Publishing.{LogsAttach};
 
-use crate::keeper::{Keeper, SlotState};
+use crate::keeper::Keeper;
 use crate::plain_ref::PlainRef;
 use crate::publishing::publish_entry;
 use cpu_words::{Words, steps};
@@ -58,7 +58,7 @@ pub fn publish_iface(
     steps::keep(words, &mut keeper.seat, slot, seat);
     keeper.rows[slot as usize].keeps = Some(number);
     publish_entry(words, &mut keeper.seat, &keeper.rows, &entry);
-    keeper.rows[slot as usize].state = SlotState::Live(entry);
+    keeper.rows[slot as usize].make_live(entry, entry.number);
     keeper.changes += 1;
     entry
 }

@@ -24,6 +24,7 @@ mod plain_cpu;
 mod plain_ref;
 mod publishing;
 mod remembering;
+mod replacing;
 mod retiring;
 mod sections;
 mod shown;
@@ -45,9 +46,10 @@ pub use plain_cpu::{CpuRows, PlainCpu};
 pub use plain_ref::PlainRef;
 pub use publishing::publish;
 pub use remembering::{
-    find_anew, find_by_memory, find_inside, find_inside_on, find_remembered, recall_head_on,
-    recall_on, recall_remembered, refind_on, remembered,
+    find_anew, find_by_memory, find_inside_on, recall_head_on, recall_remembered, recall_word,
+    refind_on, remembered,
 };
+pub use replacing::{replace, replace_iface};
 pub use retiring::retire;
 pub use sections::{enter, enter_on, exit, exit_on, may_begin_on};
 pub use vacating::{free_iface, vacate};

@@ -8,7 +8,7 @@ ghost use Rattle.cpu_words.specs.Common.{IsAttachedKeeping, AreWordsOf, MayWrite
 ghost use Rattle.passive_list.specs.Keepers.{AreSized};
 ghost use Rattle.passive_list.specs.Publishing.{MayAttach, HasEntry, HasAttached, LogsAttach, logged_counts, logged_row, logged_stores, with_row, with_counts, keeper_after_stores};
 
-use crate::keeper::{Keeper, KeptSlot, SlotState};
+use crate::keeper::{Keeper, KeptSlot};
 use crate::links::link_below;
 use cpu_words::{KeeperSeat, Words, steps};
 use registry_values::{BIAS, Entry, MOST_CPUS, Record, kind_word};
@@ -39,7 +39,7 @@ pub fn publish(words: &Words, keeper: &mut Keeper, slot: u8, rec: Record) -> Ent
         rec,
     };
     publish_entry(words, &mut keeper.seat, &keeper.rows, &entry);
-    keeper.rows[slot as usize].state = SlotState::Live(entry);
+    keeper.rows[slot as usize].make_live(entry, entry.number);
     keeper.changes += 1;
     entry
 }
@@ -47,7 +47,7 @@ pub fn publish(words: &Words, keeper: &mut Keeper, slot: u8, rec: Record) -> Ent
 /// Publishes the entry by the keeper's seat alone, as `publish` does, when the rows say already what is in each slot: for calls that have
 /// made another step with the seat.
 /// Condition: that of `publish`, of the seat and the rows; the entry's number is how many changes there are then.
-#[tactic(auto, using(protocol::proofs::Cells::slot_here, crate::proofs::Attached::may_publish, crate::proofs::Attached::published_is, crate::proofs::Attached::leads_on, crate::proofs::Attached::rows_live, crate::proofs::Attached::live_rows))]
+#[tactic(auto, using(protocol::proofs::Cells::slot_here, crate::proofs::Attached::may_publish, crate::proofs::Attached::published_is, crate::proofs::Attached::leads_in))]
 pub(crate) fn publish_entry(words: &Words, seat: &mut KeeperSeat, rows: &[KeptSlot], entry: &Entry)
     requires table { seat.old.table ≡ words.now.table }
     requires may { MayAttach words.now.settings seat.old.view rows.now entry.now }
@@ -65,7 +65,7 @@ pub(crate) fn publish_entry(words: &Words, seat: &mut KeeperSeat, rows: &[KeptSl
 
 /// Stores all words of the entry's slot: its record, its counts and its link.
 #[tactic(auto, using(crate::proofs::Preparing::row_may, crate::proofs::Preparing::row_settings, crate::proofs::Preparing::sized_after, crate::proofs::Preparing::counts_may, crate::proofs::Preparing::prepared_from))]
-fn prepare(words: &Words, seat: &mut KeeperSeat, entry: &Entry, cpus: u8, link: u64)
+pub(crate) fn prepare(words: &Words, seat: &mut KeeperSeat, entry: &Entry, cpus: u8, link: u64)
     requires table { seat.old.table ≡ words.now.table }
     requires may { MayWrite seat.old.view entry.now.slot }
     requires sized { AreSized seat.old.view.settings.slots seat.old.view }

@@ -4,33 +4,17 @@
 
 ghost use Rattle.std.specs.Prelude.{◌≡◌, ◌≢◌, ◌<◌, ◌≤◌, None, ◌↔◌, IfSome, IsTrue, true};
 ghost use Rattle.cpu_words.specs.Common.{AreWordsOf, key_with};
-ghost use Rattle.passive_list.specs.Remembering.{HasRecalledHeadOn, HasRecalledOn, HasRefoundOn, HasSeen, FindsInside, FindsWhatStays, HasFoundAnew, HasFoundByMemory, HasFoundInSection, HasFoundInside, HasFoundKept, HasFoundRemembered, HasRecalledByMemory, RecallsSeen, RefindsSeen, RemembersAnswer};
+ghost use Rattle.passive_list.specs.Remembering.{HasRecalledHeadOn, HasRecalledOn, HasRefoundOn, HasSeen, FindsInside, FindsWhatIsKept, FindsWhatStays, HasFoundAnew, HasFoundByMemory, HasFoundInSection, HasFoundKept, HasRecalledByMemory, RefindsSeen, RemembersAnswer};
 ghost use Rattle.passive_list.specs.Memories.{HasNumbered, IsMiss, IsTrueMiss, Recalls, WasAbsent, miss_of, with_miss};
 ghost use Rattle.passive_list.specs.Cpus.{may_begin};
 ghost use Rattle.passive_list.specs.Lookups.{entry_seen};
 
-use crate::cpu::Cpu;
 use crate::from_outside::find_from_outside;
-use crate::lookup::{Seen, entry_of, find_seen, keep};
+use crate::lookup::{Seen, find_seen, keep};
 use crate::memory::Miss;
 use crate::plain_cpu::PlainCpu;
-use cpu_words::{Domain, Words, steps};
-use registry_values::{Entry, Kind, MOST_SLOTS, Name};
-
-/// Whether the entry with `number`, which this CPU has seen in `slot`, is live: by one load of the slot's live word. If so, it is the
-/// registry's answer at that very point of the history, where this CPU's pass is the whole of it. Else the load tells nothing: the caller looks
-/// up in a section.
-/// Conditions: the words are the CPU's table's; the slot is one of the table's.
-#[inline(always)]
-pub fn recall_on(words: &Words, cpu: &mut PlainCpu, slot: u8, number: u64) -> bool
-    requires words { AreWordsOf words.now cpu.old.words.table cpu.old.words.settings }
-    requires slot { (slot < MOST_SLOTS) × (slot < cpu.old.words.settings.slots) }
-    ensures recalled { HasRecalledOn slot number cpu.old.cpu cpu.new.cpu result }
-    ensures words { cpu.new.words ≡ cpu.old.words }
-{
-    let live = steps::recall(words, &mut cpu.seat, cpu.id, slot);
-    live == number
-}
+use cpu_words::{Words, steps};
+use registry_values::{Kind, MOST_SLOTS, Name};
 
 /// The slot of the newest live entry plus 1, or 0 where no entry is live: by one load of the head. So it is at that very point of the history,
 /// where this CPU's pass is the whole of it.
@@ -71,7 +55,8 @@ pub fn refind_on(words: &Words, cpu: &mut PlainCpu, kind: Kind, name: Name, seen
 /// registry's at the very point of that load. Else it loads the head and the newest live entry's word. There is no such entry at the head's
 /// load, if no entry is live, or if the CPU missed this kind and name before, while that entry was the newest one. Else it looks up in a section
 /// of its own, and remembers the answer, a miss too.
-/// An entry that was attached before the call began, as far as the CPU knows, is found unless it is detached meanwhile (`stays`).
+/// An entry that was attached before the call began, as far as the CPU knows, is found unless it is detached or replaced meanwhile (`stays`).
+/// If there was an entry with this kind and name then, an entry is found, unless one with both is detached meanwhile (`kept`).
 /// Conditions: the words are the CPU's table's; it is outside, and has a section left (`may_begin_on`).
 #[inline(always)]
 #[tactic(auto, using(crate::proofs::ByMemory::still_outside))]
@@ -81,6 +66,7 @@ pub fn find_by_memory(words: &Words, cpu: &mut PlainCpu, kind: Kind, name: Name)
     requires room { IsTrue (may_begin cpu.old.cpu.view) }
     ensures found { HasFoundByMemory (key_with kind name) cpu.old.cpu cpu.new.cpu result }
     ensures stays { FindsWhatStays (key_with kind name) cpu.old.cpu.view.pass cpu.new.cpu.view.pass (entry_seen (key_with kind name) result) }
+    ensures kept { FindsWhatIsKept (key_with kind name) cpu.old.cpu.view.pass cpu.new.cpu.view.pass (entry_seen (key_with kind name) result) }
     ensures slot { IfSome result (λ seen. seen.slot < MOST_SLOTS) }
     ensures words { cpu.new.words ≡ cpu.old.words }
 {
@@ -101,31 +87,12 @@ pub fn recall_remembered(words: &Words, cpu: &mut PlainCpu, kind: Kind, name: Na
     ensures words { cpu.new.words ≡ cpu.old.words }
 {
     let seen = remembered(cpu, kind, name)?;
-    if recall_seen(words, cpu, kind, name, seen) {
+    let live = steps::recall(words, &mut cpu.seat, cpu.id, seen.slot as u8);
+    let is_live = live == seen.number;
+    if is_live {
         return Some(seen);
     }
     None
-}
-
-/// `find_by_memory` on a CPU of the table that D names: looks an entry up by its kind and name, by one load if the CPU remembers a live one, by two
-/// if it remembers that there is none, else in a section of its own. Nothing is held from then on, and the last found entry stays.
-/// Conditions: the CPU is outside, and has a section left (`may_begin_on`).
-#[inline(always)]
-pub fn find_remembered<D: Domain>(
-    words: &Words,
-    cpu: &mut Cpu<D>,
-    kind: Kind,
-    name: &Name,
-) -> Option<Entry>
-    requires words { AreWordsOf words.now D.table D.settings }
-    requires outside { cpu.old.depth ≡ 0 }
-    requires room { IsTrue (may_begin cpu.old.view) }
-    ensures found { HasFoundRemembered (key_with kind name.now) cpu.old cpu.new result }
-    ensures stays { FindsWhatStays (key_with kind name.now) cpu.old.view.pass cpu.new.view.pass result }
-{
-    let name = *name;
-    let seen = find_by_memory(words, &mut cpu.plain, kind, name);
-    entry_of(seen, kind, name)
 }
 
 /// The entry that the CPU remembers with this kind and name.
@@ -135,20 +102,6 @@ pub fn remembered(cpu: &PlainCpu, kind: Kind, name: Name) -> Option<Seen>
     ensures seen { IfSome result (λ seen. HasSeen cpu.now (key_with kind name) seen) }
 {
     cpu.memory.remembered(kind, name)
-}
-
-/// Whether an entry that the CPU has seen is live.
-#[inline(always)]
-#[tactic(auto, using(crate::proofs::ByMemory::recalls_seen))]
-fn recall_seen(words: &Words, cpu: &mut PlainCpu, kind: Kind, name: Name, seen: Seen) -> bool
-    requires words { AreWordsOf words.now cpu.old.words.table cpu.old.words.settings }
-    requires seen { HasSeen cpu.old (key_with kind name) seen }
-    ensures recalled { RecallsSeen (key_with kind name) seen cpu.old.cpu cpu.new.cpu result }
-    ensures words { cpu.new.words ≡ cpu.old.words }
-{
-    // The contract alone speaks of the key.
-    let _key = (kind, name);
-    recall_on(words, cpu, seen.slot as u8, seen.number)
 }
 
 /// Looks an entry up anew: there is none, if no entry is live, or if the newest live one is that of the last miss. Else in a section.
@@ -184,9 +137,11 @@ fn last_miss(cpu: &PlainCpu, kind: Kind, name: Name) -> Miss
     cpu.memory.miss_of(kind, name)
 }
 
-/// The slot's live word, by one load.
+/// The slot's live word, by one load: the number of the entry there, if that is live at this very point of the history, where this CPU's pass is
+/// the whole of it.
+/// Conditions: the words are the CPU's table's; the slot is one of the table's.
 #[inline(always)]
-fn recall_word(words: &Words, cpu: &mut PlainCpu, slot: u8) -> u64
+pub fn recall_word(words: &Words, cpu: &mut PlainCpu, slot: u8) -> u64
     requires words { AreWordsOf words.now cpu.old.words.table cpu.old.words.settings }
     requires slot { (slot < MOST_SLOTS) × (slot < cpu.old.words.settings.slots) }
     ensures recalled { HasRecalledOn slot result cpu.old.cpu cpu.new.cpu true }
@@ -230,31 +185,17 @@ fn miss_on(cpu: &mut PlainCpu, kind: Kind, name: Name, number: u64)
     cpu.memory.miss(kind, name, number);
 }
 
-/// `find_inside_on` on a CPU of the table that D names. Condition: inside.
-#[inline(always)]
-pub fn find_inside<D: Domain>(
-    words: &Words,
-    cpu: &mut Cpu<D>,
-    kind: Kind,
-    name: &Name,
-) -> Option<Entry>
-    requires words { AreWordsOf words.now D.table D.settings }
-    requires inside { cpu.old.view.begin ≢ None }
-    ensures { HasFoundInside (key_with kind name.now) cpu.old cpu.new result }
-{
-    let name = *name;
-    let seen = find_inside_on(words, &mut cpu.plain, kind, name);
-    entry_of(seen, kind, name)
-}
-
 /// Looks an entry up in the open section: by one load, if the CPU remembers an entry with this kind and name, and that is live. Else by a search,
 /// and remembers the answer. The result is the last found entry, as `find_on`'s.
+/// What was there before the call began is found as `find_by_memory` finds it (`stays`, `kept`).
 /// Conditions: the words are the CPU's table's; inside.
 #[inline(always)]
 pub fn find_inside_on(words: &Words, cpu: &mut PlainCpu, kind: Kind, name: Name) -> Option<Seen>
     requires words { AreWordsOf words.now cpu.old.words.table cpu.old.words.settings }
     requires inside { cpu.old.cpu.view.begin ≢ None }
     ensures found { FindsInside (key_with kind name) cpu.old.cpu cpu.new.cpu result }
+    ensures stays { FindsWhatStays (key_with kind name) cpu.old.cpu.view.pass cpu.new.cpu.view.pass (entry_seen (key_with kind name) result) }
+    ensures kept { FindsWhatIsKept (key_with kind name) cpu.old.cpu.view.pass cpu.new.cpu.view.pass (entry_seen (key_with kind name) result) }
     ensures slot { IfSome result (λ seen. seen.slot < MOST_SLOTS) }
     ensures words { cpu.new.words ≡ cpu.old.words }
 {

@@ -28,8 +28,9 @@ pub fn retire(words: &Words, keeper: &mut Keeper, slot: u8) -> Entry
     steps::hide(words, &mut keeper.seat, slot);
     let slots = keeper.settings.slots;
     let cpus = keeper.settings.cpus;
-    let before = slot_above(&keeper.rows, slots, entry.number);
-    let link = link_below(&keeper.rows, slots, entry.number);
+    let rank = keeper.rows[slot as usize].rank;
+    let before = slot_above(&keeper.rows, slots, rank);
+    let link = link_below(&keeper.rows, slots, rank);
     steps::unpublish(words, &mut keeper.seat, slot, before, link);
     snapshots(words, &mut keeper.seat, slot, cpus, &mut keeper.marks);
     keeper.rows[slot as usize].state = SlotState::Retired(entry);
@@ -39,7 +40,13 @@ pub fn retire(words: &Words, keeper: &mut Keeper, slot: u8) -> Entry
 
 /// Takes the snapshots of all CPUs, CPU 0 first, into the slot's marks. All other marks stay.
 #[tactic(auto, using(crate::proofs::Marks::none_written, crate::proofs::Marks::none_taken, crate::proofs::Marks::taking_first))]
-fn snapshots(words: &Words, seat: &mut KeeperSeat, slot: u8, cpus: u8, marks: &mut [Mark])
+pub(crate) fn snapshots(
+    words: &Words,
+    seat: &mut KeeperSeat,
+    slot: u8,
+    cpus: u8,
+    marks: &mut [Mark],
+)
     requires table { seat.old.table ≡ words.now.table }
     requires due { seat.old.view.due ≡ Snapshots slot 0 }
     requires fresh { AreFresh seat.old.view slot }

@@ -48,7 +48,8 @@ impl WritesEntry for AsItIs {
 /// The last found entry is cleared. It takes no memory.
 /// Conditions: inside; the row has as many places as the registry has slots.
 ///
-/// 1. Each entry that is live from the start to the end is in the row, once.
+/// 1. Each entry that is live from the start to the end is in the row, once. A name that has an entry all the while, though that be replaced, is
+///    there once (`places` of `HasWalked`, and `newest_first`).
 /// 2. Each entry in the row was live at some point from what this CPU had seen at the call to what it has seen at the return.
 /// 3. Each of them keeps its slot until this section ends.
 ///

@@ -3,31 +3,31 @@ use Rattle.std.proofs.Common.{◌≡◌, ◌≢◌, ◌⊎◌, ⊎_elim, ℕ, �
 use Rattle.std.proofs.lemmas.Bool.{eq-eqb, eqb-true, lt-ltb, ltb-true, and_parts, cases_eq, cases_lt}
 use Rattle.std.proofs.lemmas.Option.{none-some}
 use Rattle.std.proofs.lemmas.List.Quantifiers.{position-Some}
-use Rattle.std.specs.Prelude.{position, Result, Ok, Err}
+use Rattle.std.specs.Prelude.{position, Result, Ok, Err, IfErr}
 use Rattle.std.specs.List.{Contains}
 use Rattle.std.proofs.lemmas.List.{length-set}
 use Rattle.atomic_table.specs.Seated.{TableId}
 use Rattle.passive_list.specs.Types.{Entry, Settings, CpuView, Refusal, NothingFound, LoadRecord, Passive, Word}
 use Rattle.registry_values.specs.Common.{Answers}
 use Rattle.protocol.specs.Common.{IsAttached, word, words_of}
-use Rattle.protocol.proofs.History.{one_entry, at_within}
+use Rattle.protocol.proofs.History.{one_entry, attached_within}
 use Rattle.protocol.proofs.Cells.{position_passes}
 use Rattle.protocol.proofs.Occupied.{place_cases}
 use Rattle.cpu_words.specs.Common.{references_to, IsAt, IsShownCpu, without, IsAloneAt, HasSubtracted, IsWordOf, did}
 use Rattle.cpu_words.specs.Passives.{HasAdded}
 use Rattle.cpu_words.proofs.shown.ReferenceLists.{counts, some_of, to_same, to_other, in_cons, one_less, others_stay, was_in}
-use Rattle.passive_list.specs.Common.{no_place, place_at, PassiveAgree, Memory, IsPlaceOf, IsOurCpu, OnCpu}
+use Rattle.passive_list.specs.Common.{no_place, place_at, PassiveAgree, Memory, IsPlaceOf, IsOurCpu, OnCpu, OnPlainCpu}
 use Rattle.passive_list.specs.declared.place.NumberedCount.{NumberedCount}
 use Rattle.passive_list.specs.declared.place.Found.{Found}
 use Rattle.passive_list.proofs.Agreeing.{slot_within, net_same, IsFoundAs}
-use Rattle.passive_ref.specs.{IsHeldAt, counts_for, OnPsref, IsAdded, IsNew, IsAcquired, why_full, why_not_acquired, HasLoaded, has_loaded}
+use Rattle.passive_ref.specs.{IsHeldAt, counts_for, OnPsref, IsAdded, IsNew, IsAcquired, IsCopied, IsFoundLast, why_full, why_not_acquired, HasLoaded, has_loaded}
 
 -- What a CPU's places say of its references: where the entry of a number is, and how many references are to it.
 
 -- an entry of the pass with the number of a place was attached in its slot
 pub place_of : (x : CpuView) (ps : List NumberedCount) (t : ℕ) (e : Entry) → PassiveAgree x ps → IsAttached x.pass e → (place_at ps t).number ≡ e.number → e.slot ≡ t
 place_of x ps t e agree attached same =
-    let here = agree.placed t (λ (none : (place_at ps t).number ≡ 0). absurd (omega (arith, same, none, (at_within x.pass e.number _ attached).0))) in
+    let here = agree.placed t (λ (none : (place_at ps t).number ≡ 0). absurd (omega (arith, same, none, (attached_within x.pass e attached).0))) in
     let one : e ≡ here.entry = one_entry x.pass e here.entry attached here.attached (sym same ∙ sym here.number) in
     ap (λ (f : Entry). f.slot) one ∙ here.slot
 
@@ -113,7 +113,7 @@ added_passive x ps e t n m agree at attached few alone is = record {
       (cases u);
   each = λ f among. ⊎_elim
       (λ (same : e ≡ f). subst (λ (h : Entry). (h.slot < x.settings.slots) × IsAttached x.pass h × ((place_at (set ps t new) h.slot).number ≡ h.number) × (0 < h.number)) same
-      (omega (arith, few, at.slot), attached, here e at.slot ∙ sym at.number, (at_within x.pass e.number _ attached).0))
+      (omega (arith, few, at.slot), attached, here e at.slot ∙ sym at.number, (attached_within x.pass e attached).0))
       (λ (old : Contains x.references f).
       let had = agree.each f old in
       let number : (place_at (set ps t new) f.slot).number ≡ f.number = ⊎_elim
@@ -208,6 +208,37 @@ acquired k a b r kept answer = subst (λ (o : Option Entry). Answers (why_not_ac
 
 pub not_acquired : (a b : OnCpu) → a.view.found ≡ None → Answers (why_not_acquired a.view a.view.found) (IsAcquired a b) (Err NothingFound)
 not_acquired a b none = subst (λ (o : Option Entry). Answers (why_not_acquired a.view o) (IsAcquired a b) (Err NothingFound)) (sym none) refl
+
+-- of an entry that the CPU refers to
+pub copied : (a b : OnCpu) (t n : ℕ) (r : Result OnPsref Refusal) → IsHeldAt a.view t n → Answers (why_full a.view n) (IsAdded t n a b) r → Answers (why_full a.view n) (IsCopied n a b) r
+copied a b t n (Ok p) held (room, added) =
+    let one : added.0 ≡ held.entry = one_entry a.view.pass added.0 held.entry added.2 held.attached (added.1.number ∙ sym held.at.number) in
+    (room, (held.entry, held.held, held.at.number, subst (λ (f : Entry). IsNew f a b p) one added.3))
+copied a b t n (Err f) held had = had
+
+pub held_some : (x : CpuView) (t n : ℕ) → IsHeldAt x t n → 0 < references_to n x.references
+held_some x t n held = counts x.references held.entry n held.held held.at.number
+
+-- one that is refused changes nothing
+pub refused_cpu : (a b : OnPlainCpu) (r : Result OnPsref Refusal) → IfErr r (λ _. b ≡ a) → IfErr r (λ _. b.cpu ≡ a.cpu)
+refused_cpu a b (Ok p) same = tt
+refused_cpu a b (Err f) same = ap (λ (o : OnPlainCpu). o.cpu) same
+
+-- Whether the last found entry is the one with that number, by what is kept of it.
+
+pub is_last : (x : CpuView) (k : Found) (n : ℕ) → IsFoundAs x k → k.number ≡ n → IsFoundLast x n
+is_last x k n kept same = (kept.entry, kept.found, sym kept.number ∙ same)
+
+pub not_last : (x : CpuView) (k : Found) (n : ℕ) → IsFoundAs x k → (k.number ≡ n → ⊥) → IsFoundLast x n → ⊥
+not_last x k n kept off last =
+    let one : kept.entry ≡ last.0 = some_one kept.entry last.0 (sym kept.found ∙ last.1) in
+    off (kept.number ∙ (ap (λ (e : Entry). e.number) one ∙ last.2))
+  where
+    some_one : (e f : Entry) → ◌≡◌ {A = Option Entry} (Some e) (Some f) → e ≡ f
+    some_one e f same = cc
+
+pub none_last : (x : CpuView) (n : ℕ) → x.found ≡ None → IsFoundLast x n → ⊥
+none_last x n none last = none-some last.0 (sym none ∙ last.1)
 
 -- The words of a record, loaded while the CPU's view stays as it was.
 

@@ -1,12 +1,14 @@
 -- Passive references of a CPU (psref(9)): why a call is refused, what it returns and leaves; also of a get by memory.
-use Rattle.std.specs.Prelude.{◌≡◌, ◌⊎◌, ℕ, ◌<◌, ◌==◌, ◌&&◌, nat_lt, Bool, List, ◌∷◌, ◌++◌, Option, Some, None, Result, Ok, Err, ◌≢◌, ◌≤◌, if◌then◌else◌, true, false, length}
+use Rattle.std.specs.Prelude.{◌≡◌, ◌⊎◌, ℕ, ◌<◌, ◌==◌, ◌&&◌, nat_lt, Bool, List, ◌∷◌, ◌++◌, Option, Some, None, Result, Ok, Err, IfErr, ◌≢◌, ◌≤◌, if◌then◌else◌, true, false, length}
 use Rattle.std.specs.List.{Contains}
 use mathlib.Core.List.{IsPrefix}
 use Rattle.passive_list.specs.Types.{Entry, Record, Refusal, NothingFound, LoadRecord, PassiveAdd, PassiveSub, Passive, Word, CpuView, LogItem, Key, Try, Confirm, TakeBack, Recall}
 use Rattle.registry_values.specs.Answers as answers
+use Rattle.registry_values.specs.declared.refusal.Refusal.TheVariants.{NotFound}
+use Rattle.registry_values.specs.Common.{Answers}
 use Rattle.protocol.specs.Common.{word, words_of, IsAttached, IsLiveAt, IsLookup, entry_with}
 use Rattle.cpu_words.specs.Common.{did, references_to, without, IsAt, IsAloneAt}
-use Rattle.passive_list.specs.Common.{OnCpu, IsPlaceOf, Recalls}
+use Rattle.passive_list.specs.Common.{FindsInside, OnCpu, IsPlaceOf, Recalls}
 use Rattle.passive_list.specs.declared.place.NumberedCount.{NumberedCount}
 use Rattle.passive_list.specs.declared.lookup.Seen.{Seen}
 
@@ -109,6 +111,42 @@ abbrev pub GivesBack : {X : Type 0} → Option Refusal → OnPsref → (X → Ty
 GivesBack why p P (Ok x) = (why ≡ None) × P x
 GivesBack why p P (Err r) = (why ≡ Some r.0) × (r.1 ≡ p)
 
+-- An acquire of the entry n, and of no other one: what it does with the last found entry, with a reference that the CPU has, and by a lookup.
+
+-- the last found entry is n
+abbrev pub IsFoundLast : CpuView → ℕ → Type 0
+IsFoundLast x n = (e : Entry) × (x.found ≡ Some e) × (e.number ≡ n)
+
+-- it is acquired, unless the CPU has as many as it may
+pub record AcquiresLast (n : ℕ) (a b : OnCpu) (r : Result OnPsref Refusal) : Type 0 where
+  pub last : IsFoundLast a.view n
+  pub answer : Answers (why_not_acquired a.view a.view.found) (IsAcquired a b) r
+  pub refused : IfErr r (λ _. b ≡ a)
+
+-- the CPU has a reference to n, and has one more, unless it has as many as it may
+pub record CopiesOwn (n : ℕ) (a b : OnCpu) (r : Result OnPsref Refusal) : Type 0 where
+  pub held : 0 < references_to n a.view.references
+  pub answer : Answers (why_full a.view n) (IsCopied n a b) r
+  pub refused : IfErr r (λ _. b ≡ a)
+
+-- the entry is neither
+pub record AcquiresNone (n : ℕ) (a b : OnCpu) (r : Result OnPsref Refusal) : Type 0 where
+  pub other : IsFoundLast a.view n → ⊥
+  pub none : references_to n a.view.references ≡ 0
+  pub answer : r ≡ Err NotFound
+  pub same : b ≡ a
+
+-- The entry isn't the last found one. A lookup for the key leaves the CPU as c. Then it is the last found one, or the CPU has a reference to it, or it is neither.
+pub record AcquiresSought (n : ℕ) (key : Key) (a b : OnCpu) (r : Result OnPsref Refusal) : Type 0 where
+  pub other : IsFoundLast a.view n → ⊥
+  pub c : OnCpu
+  pub seen : Option Seen
+  pub finds : FindsInside key a c seen
+  pub how : AcquiresLast n c b r ⊎ (CopiesOwn n c b r ⊎ AcquiresNone n c b r)
+
+abbrev pub AcquiresEntry : ℕ → Key → OnCpu → OnCpu → Result OnPsref Refusal → Type 0
+AcquiresEntry n key a b r = AcquiresLast n a b r ⊎ (CopiesOwn n a b r ⊎ AcquiresSought n key a b r)
+
 -- A get by memory: a passive reference to an entry that the CPU has seen is acquired by one addition, and one load of the slot's live word.
 
 -- the entry n of the slot t is in the CPU's pass
@@ -192,11 +230,3 @@ GetsBy (Some s) key a b (Some got) = (got.0 ≡ s) × HasGotOn s.slot s.number a
 
 abbrev pub HasGotByMemory : Key → OnCpu → OnCpu → Option (Seen × OnPsref) → Type 0
 HasGotByMemory key a b result = (kept : Option Seen) × Recalls a.memory key kept × GetsBy kept key a b result
-
--- the same, of the entry itself
-abbrev pub entry_got : Key → Option (Seen × OnPsref) → Option (Entry × OnPsref)
-entry_got key None = None
-entry_got key (Some got) = Some (entry_with key got.0.slot got.0.number got.0.value, got.1)
-
-abbrev pub HasGotRemembered : Key → OnCpu → OnCpu → Option (Entry × OnPsref) → Type 0
-HasGotRemembered key a b result = (got : Option (Seen × OnPsref)) × (result ≡ entry_got key got) × HasGotByMemory key a b got

@@ -1,15 +1,15 @@
 //! Passive references (psref(9)): acquired, copied and released on one CPU, by one step each on a word of its own.
 
-ghost use Rattle.std.specs.Prelude.{◌≡◌, ◌<◌, IfErr, IsTrue, false};
+ghost use Rattle.std.specs.Prelude.{◌≡◌, ◌≢◌, ◌<◌, IfErr, IsTrue, None, false};
 ghost use Rattle.registry_values.specs.Common.{Answers};
-ghost use Rattle.cpu_words.specs.Common.{AreWordsOf, references_to};
-ghost use Rattle.passive_ref.specs.{MayRefer, IsHeldAt, IsAcquired, IsCopied, IsAdded, HasOneLess, GivesBack, why_full, why_unusable, why_not_acquired, why_not_copied};
+ghost use Rattle.cpu_words.specs.Common.{AreWordsOf, key_with, references_to};
+ghost use Rattle.passive_ref.specs.{AcquiresEntry, AcquiresSought, CopiesOwn, IsFoundLast, MayRefer, IsHeldAt, IsAcquired, IsCopied, IsAdded, HasOneLess, GivesBack, why_full, why_unusable, why_not_acquired, why_not_copied};
 
-use crate::holding::{count_of, counts_at, usable_slot};
+use crate::holding::{count_of, counts_at, slot_of, usable_slot};
 use crate::psref::Psref;
 use cpu_words::{Domain, Words, steps};
-use passive_list::{Cpu, NumberedCount, PlainCpu};
-use registry_values::{Refusal, why_full};
+use passive_list::{Cpu, NumberedCount, PlainCpu, find_inside_on};
+use registry_values::{Kind, Name, Refusal, why_full};
 
 /// Acquires a passive reference to this CPU's last found entry (psref(9)). It outlives the section, and the entry keeps its slot until it
 /// is released.
@@ -37,6 +37,83 @@ pub fn acquire_on(words: &Words, cpu: &mut PlainCpu) -> Result<Psref, Refusal>
         return Err(Refusal::NothingFound);
     }
     add(words, cpu, found.slot, found.number)
+}
+
+/// Acquires a passive reference to the entry with that number, and to no other entry: to the last found entry, if it is that one; by the CPU's own
+/// reference to it, if the place of the slot `hint` counts one; else by a lookup of the kind and the name, if that finds it, or if the CPU has a
+/// reference to it all the same.
+/// Conditions: the words are the CPU's table's; inside.
+/// Refused: `NotFound` if the entry is none of these; `PassiveFull` if the CPU has `passive_limit` references to it. Nothing is acquired then.
+pub fn acquire_entry(
+    words: &Words,
+    cpu: &mut PlainCpu,
+    number: u64,
+    hint: u8,
+    kind: Kind,
+    name: Name,
+) -> Result<Psref, Refusal>
+    requires words { AreWordsOf words.now cpu.old.words.table cpu.old.words.settings }
+    requires inside { cpu.old.cpu.view.begin ≢ None }
+    ensures acquired { AcquiresEntry number (key_with kind name) cpu.old.cpu cpu.new.cpu result }
+    ensures words { cpu.new.words ≡ cpu.old.words }
+{
+    if is_found_last(cpu, number) {
+        return acquire_on(words, cpu);
+    }
+    if counts_at(cpu, hint, number) {
+        return copy_at(words, cpu, hint, number);
+    }
+    acquire_sought(words, cpu, number, kind, name)
+}
+
+/// What `acquire_entry` does by a lookup. Conditions: inside; the entry isn't the last found one.
+#[inline(never)]
+fn acquire_sought(
+    words: &Words,
+    cpu: &mut PlainCpu,
+    number: u64,
+    kind: Kind,
+    name: Name,
+) -> Result<Psref, Refusal>
+    requires words { AreWordsOf words.now cpu.old.words.table cpu.old.words.settings }
+    requires inside { cpu.old.cpu.view.begin ≢ None }
+    requires other { IsFoundLast cpu.old.cpu.view number → ⊥ }
+    ensures sought { AcquiresSought number (key_with kind name) cpu.old.cpu cpu.new.cpu result }
+    ensures words { cpu.new.words ≡ cpu.old.words }
+{
+    find_inside_on(words, cpu, kind, name);
+    if is_found_last(cpu, number) {
+        return acquire_on(words, cpu);
+    }
+    match slot_of(cpu, number) {
+        Some(slot) => copy_at(words, cpu, slot, number),
+        None => Err(Refusal::NotFound),
+    }
+}
+
+/// Whether the CPU's last found entry is the one with that number.
+#[inline(always)]
+fn is_found_last(cpu: &PlainCpu, number: u64) -> bool
+    ensures yes { IsTrue result → IsFoundLast cpu.now.cpu.view number }
+    ensures no { result ≡ false → IsFoundLast cpu.now.cpu.view number → ⊥ }
+{
+    let found = cpu.found;
+    if found.number == 0 {
+        return false;
+    }
+    found.number == number
+}
+
+/// Acquires one more reference to an entry of that slot that the CPU refers to.
+#[inline(always)]
+#[tactic(auto, using(crate::proofs::Changing::copied, crate::proofs::Changing::held_some))]
+fn copy_at(words: &Words, cpu: &mut PlainCpu, slot: u8, number: u64) -> Result<Psref, Refusal>
+    requires words { AreWordsOf words.now cpu.old.words.table cpu.old.words.settings }
+    requires held { IsHeldAt cpu.old.cpu.view slot number }
+    ensures copied { CopiesOwn number cpu.old.cpu cpu.new.cpu result }
+    ensures words { cpu.new.words ≡ cpu.old.words }
+{
+    add(words, cpu, slot, number)
 }
 
 /// Acquires a second reference on the first one's CPU, to the same entry; each is released by itself (psref(9)). It needs no section.

@@ -6,12 +6,12 @@ ghost use Rattle.std.specs.Prelude.{◌≡◌, ◌<◌, IfSome, Some, length};
 ghost use Rattle.protocol.specs.Common.{IsLookup, entry_with};
 ghost use Rattle.cpu_words.specs.Common.{AreWordsOf, IsShownCpu, MayTry, key_with};
 ghost use Rattle.passive_list.specs.Common.{HasSeen as HasSeenOf};
-ghost use Rattle.passive_ref.specs.{counted_for, entry_got, HasGotByMemory, HasGotOn, HasGotRemembered, HasSeen, HasTriedOnSeat};
+ghost use Rattle.passive_ref.specs.{counted_for, HasGotByMemory, HasGotOn, HasSeen, HasTriedOnSeat};
 
 use crate::psref::Psref;
-use cpu_words::{CpuSeat, Domain, Words, steps};
-use passive_list::{Cpu, NumberedCount, PlainCpu, Seen, remembered};
-use registry_values::{Entry, Kind, MOST_SLOTS, Name, Record};
+use cpu_words::{CpuSeat, Words, steps};
+use passive_list::{NumberedCount, PlainCpu, Seen, remembered};
+use registry_values::{Kind, MOST_SLOTS, Name};
 
 /// Acquires a passive reference to the entry with `number`, which this CPU has seen in `slot`, inside a section or outside, if it is live: at
 /// the load it is the registry's answer at that very point of the history.
@@ -65,46 +65,6 @@ pub fn get_by_memory(
     let seen = remembered(cpu, kind, name)?;
     let psref = get_seen(words, cpu, kind, name, seen)?;
     Some((seen, psref))
-}
-
-/// `get_by_memory` on a CPU of the table that D names, which returns the entry.
-#[inline(always)]
-pub fn get_remembered<D: Domain>(
-    words: &Words,
-    cpu: &mut Cpu<D>,
-    kind: Kind,
-    name: &Name,
-) -> Option<(Entry, Psref)>
-    requires words { AreWordsOf words.now D.table D.settings }
-    ensures { HasGotRemembered (key_with kind name.now) cpu.old cpu.new result }
-{
-    let name = *name;
-    let got = get_by_memory(words, &mut cpu.plain, kind, name);
-    with_entry(got, kind, name)
-}
-
-/// The reference with its entry, in place of the entry's words.
-#[inline(always)]
-fn with_entry(got: Option<(Seen, Psref)>, kind: Kind, name: Name) -> Option<(Entry, Psref)>
-    requires { IfSome got (λ got. got.0.slot < MOST_SLOTS) }
-    ensures { result ≡ entry_got (key_with kind name) got }
-{
-    match got {
-        Some((seen, psref)) => {
-            let rec = Record {
-                kind,
-                name,
-                value: seen.value,
-            };
-            let entry = Entry {
-                number: seen.number,
-                slot: seen.slot as u8,
-                rec,
-            };
-            Some((entry, psref))
-        }
-        None => None,
-    }
 }
 
 /// `get_on` of an entry with this kind and name that the CPU has seen.

@@ -70,7 +70,7 @@ pub(crate) fn counts_at(cpu: &PlainCpu, slot: u8, number: u64) -> bool
 
 /// The slot of the entry with that number, where this CPU refers to it.
 #[inline(never)]
-fn slot_of(cpu: &PlainCpu, number: u64) -> Option<u8>
+pub(crate) fn slot_of(cpu: &PlainCpu, number: u64) -> Option<u8>
     ensures some { IfSome result (λ t. IsHeldAt cpu.now.cpu.view t number) }
     ensures none { result ≡ None → references_to number cpu.now.cpu.view.references ≡ 0 }
 {

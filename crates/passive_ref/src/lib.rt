@@ -14,8 +14,10 @@ mod holding;
 mod psref;
 mod reading;
 
-pub use acquiring::{acquire, acquire_on, copy, copy_on, release, release_at, release_on};
-pub use getting::{get_by_memory, get_on, get_remembered};
+pub use acquiring::{
+    acquire, acquire_entry, acquire_on, copy, copy_on, release, release_at, release_on,
+};
+pub use getting::{get_by_memory, get_on};
 pub use holding::{held, held_on};
 pub use passive_list::look_passive;
 pub use psref::Psref;

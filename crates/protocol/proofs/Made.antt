@@ -2,7 +2,7 @@
 -- One line of a proof by these cases serves all events that it is true of by what they leave alone.
 use Rattle.std.proofs.Common.{◌≡◌, ℕ, List, zero, suc, ◌+◌, ◌-◌, ◌==◌, ◌&&◌, nat_lt, Bool, true, if◌then◌else◌, Option, Some, None, refl, ap, ◌∙◌, subst, eqb-true, arith}
 use Rattle.protocol.specs.Types.{Kind, Entry, Name, Slot, Live}
-use Rattle.protocol.specs.Common.{Event, Seat, Enter, Exit, Seek, LoadLink, LoadRecord, StoreSlot, StoreNext, Publish, Unpublish, Tell, Hear, Snapshot, Look, PassiveAdd, PassiveSub, PassiveLook}
+use Rattle.protocol.specs.Common.{Event, Seat, Enter, Exit, Seek, LoadLink, LoadRecord, StoreSlot, StoreNext, Publish, Unpublish, Republish, Tell, Hear, Snapshot, Look, PassiveAdd, PassiveSub, PassiveLook}
 use Rattle.protocol.specs.Common.{CountAdd, SplitRef, JoinRef, CountDown, SplitBack, Collect, TotalAdd, JoinKeeper, TotalSub, Keep, KeptSub, Vacate, Show, Hide, Recall, RecallHead, Refind, Try, Confirm, TakeBack, RecordOf, Reply, Done, Word, Found, Missed, Ref, Collected}
 use Rattle.protocol.specs.Common.{Due, Adding, Subtracting, Loaded, On, Over, SearchPlace, AtNumber, Search, Hand, Empty, Taking, Giving, Back, Trying, Lifted, Standing, State, section_at, search_at, found_at, hand_at}
 use Rattle.protocol.specs.Common.{row_at, passive_at, count_at, total_at, live_at, kept_at, local_at, at_rest, loaded_at, row_of_place, Outcome, guard, some_outcome, with_some, step}
@@ -35,6 +35,9 @@ pub data Made (s : State) : Event → State → Reply → Type 0 where
   Unpublishes : (t head : ℕ) (next : List ℕ) (e : Entry) → slot_at s.slots t ≡ Live e → at_rest s.due ≡ true
       → Events.with_link_past s t (slot_before s.slots s.next t) ≡ record s { head = head; next = next }
       → Made s (Unpublish t) (Events.with_retired (record s { head = head; next = next }) t e) Done
+  Republishes : (t u head : ℕ) (next : List ℕ) (e f : Entry) → Events.entry_of t (row_at s.rows t) ≡ Some e → slot_at s.slots u ≡ Live f → Events.may_republish s t u e f ≡ true
+      → Events.with_link_to s t (slot_before s.slots s.next u) ≡ record s { head = head; next = next }
+      → Made s (Republish t u) (Events.with_replaced (record s { head = head; next = next }) t u e f) Done
   Tells : (to : Option ℕ) → Made s (Tell to) s Done
   HearsCpu : Made s (Hear None) s Done
   Hears : (c : ℕ) → Events.is_idle s c ≡ true → Made s (Hear (Some c)) (Events.after_seeing s c) Done
@@ -109,6 +112,15 @@ makes_unlinked : (s : State) (t : ℕ) (e : Entry) (p : Option ℕ) → slot_at 
 makes_unlinked s t e None at rest is = Unpublishes t _ s.next e at rest (ap (Events.with_link_past s t) is)
 makes_unlinked s t e (Some p) at rest is = Unpublishes t s.head _ e at rest (ap (Events.with_link_past s t) is)
 
+makes_swapped : (s : State) (t u : ℕ) (e f : Entry) (p : Option ℕ) → Events.entry_of t (row_at s.rows t) ≡ Some e → slot_at s.slots u ≡ Live f → Events.may_republish s t u e f ≡ true → slot_before s.slots s.next u ≡ p
+    → Made s (Republish t u) (Events.with_replaced (Events.with_link_to s t p) t u e f) Done
+makes_swapped s t u e f None of at may is = Republishes t u _ s.next e f of at may (ap (Events.with_link_to s t) is)
+makes_swapped s t u e f (Some p) of at may is = Republishes t u s.head _ e f of at may (ap (Events.with_link_to s t) is)
+
+makes_republished : (s : State) (t u : ℕ) (e : Entry) (x : Slot) → Events.entry_of t (row_at s.rows t) ≡ Some e → slot_at s.slots u ≡ x → Makes s (Republish t u) (Events.republish s t u e x)
+makes_republished s t u e (Live f) of at = on_test s (Republish t u) _ _ _ (λ may. makes_swapped s t u e f (slot_before s.slots s.next u) of at may refl)
+makes_republished s t u e _ of at = tt
+
 -- by what the slot t has
 makes_slot : (s : State) (t : ℕ) (x : Slot) → slot_at s.slots t ≡ x
     → Makes s (Unpublish t) (Events.unpublish s t x) × Makes s (Show t) (Events.show s t x) × ((c n : ℕ) → Makes s (Refind c t n) (Events.refind s c t n x))
@@ -154,6 +166,7 @@ makes s (StoreSlot t k v) = on_either s (StoreSlot t k v) (nat_lt k 5) _ _
 makes s (StoreNext t v) = on_test s (StoreNext t v) _ _ _ (λ may. StoresLink t v may)
 makes s (Publish t) = on_value s (Publish t) (Events.entry_of t (row_at s.rows t)) _ (λ e of. on_test s (Publish t) _ _ _ (λ may. Publishes t e of may))
 makes s (Unpublish t) = (makes_slot s t (slot_at s.slots t) refl).0
+makes s (Republish t u) = on_value s (Republish t u) (Events.entry_of t (row_at s.rows t)) _ (λ e of. makes_republished s t u e (slot_at s.slots u) of refl)
 makes s (Tell None) = on_test s (Tell None) _ _ _ (λ may. Tells None)
 makes s (Tell (Some c)) = on_test s (Tell (Some c)) _ _ _ (λ may. Tells (Some c))
 makes s (Hear None) = on_test s (Hear None) _ _ _ (λ may. HearsCpu)

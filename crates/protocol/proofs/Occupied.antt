@@ -1,15 +1,14 @@
 -- Slots and the entries in them, and how a written slot changes which numbers are occupied.
 use Rattle.std.proofs.Common.{◌≡◌, ℕ, zero, suc, ◌+◌, ◌<◌, ◌≤◌, ◌⊎◌, inl, inr, List, [], ◌∷◌, length, get_or, set, cond, Bool, true, false, Some, None, position, refl, sym, ap, subst, ◌∙◌, arith, get_or-set_same, get_or-set_other}
 use Rattle.std.proofs.lemmas.List.{get_or_past, set_past}
-use Rattle.std.proofs.lemmas.Option.{slice_get_within}
 use Rattle.std.proofs.lemmas.List.Quantifiers.{position-Some}
 use Rattle.std.proofs.lemmas.List.Recursion.{is_position_or_len}
 use Rattle.std.proofs.lemmas.Bool.{cases_lt, cases_eq, eqb-true, eq-eqb, cond_below}
-use Rattle.protocol.specs.Types.{Entry, Change, Attach, Slot, Vacant, Live, Retired}
+use Rattle.protocol.specs.Types.{Entry, Change, Slot, Vacant, Live, Retired}
 use Rattle.registry_values.specs.Common.{slot_at, has_number, slot_of, is_vacant, is_retired}
 use Rattle.protocol.specs.Common.{Due, Rest, IsAttached, at_rest, IsIn, Occupies, SlotsShow}
-use Rattle.protocol.specs.History.{change_at}
 use Rattle.protocol.proofs.Either.{either}
+use Rattle.protocol.proofs.History.{attached_within}
 
 -- a place of a list after one is written
 pub place_cases : {X : Type 0} (d : X) (xs : List X) (t : ℕ) (x : X) (u : ℕ) → t < length xs → ((u ≡ t) × (get_or (set xs t x) u d ≡ x)) ⊎ ((u ≡ t → ⊥) × (get_or (set xs t x) u d ≡ get_or xs u d))
@@ -89,14 +88,9 @@ attached_in h slots t e show is = either is (λ live. let was = show.live t e li
 pub one_number : (h : List Change) (slots : List Slot) (t u : ℕ) (e f : Entry) → SlotsShow h slots → IsIn e (slot_at slots t) → IsIn f (slot_at slots u) → f.number ≡ e.number → (u ≡ t) × (f ≡ e)
 one_number h slots t u e f show is also same = grind (arith, attached_in)
 
-number_within : (h : List Change) (k : ℕ) (e : Entry) → change_at h k ≡ Some (Attach e) → k ≤ length h
-unfolding change_at
-number_within h zero e at = omega arith
-number_within h (suc k) e at = slice_get_within h k (Attach e) at
-
 -- no slot has a number above the length of the history
 pub fresh_unoccupied : (h : List Change) (slots : List Slot) (n : ℕ) → SlotsShow h slots → length h < n → Occupies slots n → ⊥
-fresh_unoccupied h slots n show above was = grind (arith, number_within, attached_in)
+fresh_unoccupied h slots n show above was = omega (arith, (attached_within h was.1 (attached_in h slots was.0 was.1 show was.2).0).1, was.3, above)
 
 -- Which slot a number has.
 

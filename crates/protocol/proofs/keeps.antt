@@ -6,6 +6,7 @@ pub mod MarkKeeps
 pub mod Marking
 pub mod Linking
 pub mod References
+pub mod Replacing
 pub mod SearchKeeps
 pub mod Searching
 pub mod SectionKeeps

@@ -5,3 +5,5 @@ pub mod Narrow
 pub mod Reuse
 pub mod Steps
 pub mod Untried
+pub mod Replacing
+pub mod Points

@@ -1,9 +1,9 @@
 -- The events, a line each: where it is allowed, the state that it leaves, and its reply.
 use Rattle.std.specs.Prelude.{ℕ, zero, suc, ◌+◌, ◌-◌, ◌*◌, ◌==◌, nat_le, nat_lt, List, ◌∷◌, [], ◌++◌, length, replicate, position, Option, Some, None, is_none, is_some, Bool, true, false, not, ◌&&◌, ◌||◌, if◌then◌else◌, slice_index_or, slice_set, take}
 use Rattle.std.specs.List.{list_all}
-use Rattle.protocol.specs.Types.{MOST_CPUS, Room, Kind, Iface, Driver, Entry, Attach, Detach, Key, Slot, Vacant, Live, Retired, Mark}
+use Rattle.protocol.specs.Types.{MOST_CPUS, Room, Kind, Iface, Driver, Entry, Attach, Detach, Replace, Key, Slot, Vacant, Live, Retired, Mark}
 use Rattle.protocol.specs.declared.event.Event.{Event}
-use Rattle.protocol.specs.declared.event.Event.TheVariants.{Seat, Enter, Exit, Seek, LoadLink, LoadRecord, StoreSlot, StoreNext, Publish, Unpublish, Tell, Hear, Snapshot, Look, PassiveAdd, PassiveSub, PassiveLook, CountAdd, SplitRef, JoinRef, CountDown, SplitBack, Collect, TotalAdd, JoinKeeper, TotalSub, Keep, KeptSub, Vacate, Show, Hide, Recall, RecallHead, Refind, Try, Confirm, TakeBack}
+use Rattle.protocol.specs.declared.event.Event.TheVariants.{Seat, Enter, Exit, Seek, LoadLink, LoadRecord, StoreSlot, StoreNext, Publish, Unpublish, Republish, Tell, Hear, Snapshot, Look, PassiveAdd, PassiveSub, PassiveLook, CountAdd, SplitRef, JoinRef, CountDown, SplitBack, Collect, TotalAdd, JoinKeeper, TotalSub, Keep, KeptSub, Vacate, Show, Hide, Recall, RecallHead, Refind, Try, Confirm, TakeBack}
 use Rattle.protocol.specs.declared.event.RecordOf.{RecordOf}
 use Rattle.protocol.specs.declared.event.RecordOf.TheVariants.{Search as OfSearch, Passive as OfPassive, Local as OfLocal, Compared as OfCompared}
 use Rattle.protocol.specs.declared.event.Reply.{Reply}
@@ -20,10 +20,10 @@ use Rattle.protocol.specs.declared.state.LocalPlace.{LocalPlace}
 use Rattle.protocol.specs.declared.state.LocalPlace.TheVariants.{Free, Standing, Lifted}
 use Rattle.protocol.specs.declared.state.Due.{Due}
 use Rattle.protocol.specs.declared.state.Due.TheVariants.{Rest, Snapshots, Adding, Subtracting}
-use Rattle.protocol.specs.History.{after_change}
+use Rattle.protocol.specs.History.{after_change, rank_at}
 use Rattle.protocol.specs.State.{loaded_at, row_of_place, State, with_cell, section_at, begin_at, depth_at, seen_at, search_at, found_at, hand_at, row_at, mark_at, passive_at, count_at, total_at, live_at, kept_at, local_at, is_empty, at_rest}
 use Rattle.registry_values.specs.Answers as answers
-use Rattle.registry_values.specs.Common.{key_of, slot_at, kind_word, is_iface, is_driver, is_vacant, is_retired, is_taken, live_count, slot_of, slot_before, bias, no_mark, have_passed, are_clear, are_collected, is_some_collected, mark_after_passive_look, mark_after_collect, mark_after_look}
+use Rattle.registry_values.specs.Common.{key_of, same_key, slot_at, kind_word, is_iface, is_driver, is_vacant, is_retired, is_taken, live_count, slot_of, slot_before, bias, no_mark, have_passed, are_clear, are_collected, is_some_collected, mark_after_passive_look, mark_after_collect, mark_after_look}
 use Rattle.registry_values.specs.Names.{are_key_words, are_name_words}
 
 -- what an event leaves and answers
@@ -282,6 +282,36 @@ abbrev pub unpublish : State → ℕ → Slot → Option Outcome
 unpublish s t Vacant = None
 unpublish s t (Live e) = guard (at_rest s.due) (some_outcome (after_unpublish s t e) Done)
 unpublish s t (Retired e) = None
+
+-- an entry takes another's place
+
+-- one store to the link that leads to the slot before which p is, or which is the first: it leads to t
+abbrev pub with_link_to : State → ℕ → Option ℕ → State
+with_link_to s t None = record s { head = t + 1 }
+with_link_to s t (Some p) = record s { next = slice_set s.next p (t + 1) }
+
+-- all is stored in t that its entry e needs to take the place of f, which is live in u
+abbrev pub may_republish : State → ℕ → ℕ → Entry → Entry → Bool
+may_republish s t u e f = may_write s t && (e.number == length s.history + 1 && (same_key (key_of e) (key_of f)
+    && (has_room s && (slice_index_or s.next t 0 == slice_index_or s.next u 0 && (are_unused s t && keeps_rightly (kept_at s.keeps t) e.rec.kind)))))
+
+-- e is live in t, and f of u is retired, without marks, and all snapshots are due
+abbrev pub with_replaced : State → ℕ → ℕ → Entry → Entry → State
+with_replaced s t u e f = record s {
+  history = after_change s.history (Replace f.number (rank_at s.history f.number) e);
+  slots = slice_set (slice_set s.slots t (Live e)) u (Retired f);
+  nets = slice_set s.nets t (replicate MOST_CPUS bias);
+  marks = slice_set s.marks u (replicate MOST_CPUS no_mark);
+  due = Snapshots u 0;
+}
+
+abbrev pub after_republish : State → ℕ → ℕ → Entry → Entry → State
+after_republish s t u e f = with_replaced (with_link_to s t (slot_before s.slots s.next u)) t u e f
+
+abbrev pub republish : State → ℕ → ℕ → Entry → Slot → Option Outcome
+republish s t u e Vacant = None
+republish s t u e (Live f) = guard (may_republish s t u e f) (some_outcome (after_republish s t u e f) Done)
+republish s t u e (Retired f) = None
 
 -- Grace
 
@@ -597,6 +627,7 @@ step s (StoreSlot t k v) = store_slot s t k v
 step s (StoreNext t v) = guard (may_write s t) (some_outcome (after_link_store s t v) Done)
 step s (Publish t) = with_some (entry_of t (row_at s.rows t)) (λ e. guard (may_publish s t e) (some_outcome (after_publish s t e) Done))
 step s (Unpublish t) = unpublish s t (slot_at s.slots t)
+step s (Republish t u) = with_some (entry_of t (row_at s.rows t)) (λ e. republish s t u e (slot_at s.slots u))
 step s (Tell to) = tell s to
 step s (Hear to) = hear s to
 step s (Snapshot to c) = snapshot s to c
@@ -643,5 +674,6 @@ state_after s (Some o) = o.state
 abbrev pub grows : Event → Bool
 grows (Publish t) = true
 grows (Unpublish t) = true
+grows (Republish t u) = true
 grows (SplitRef c) = true
 grows _ = false

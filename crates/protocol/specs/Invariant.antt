@@ -14,7 +14,7 @@ use Rattle.protocol.specs.declared.state.LocalPlace.{LocalPlace}
 use Rattle.protocol.specs.declared.state.LocalPlace.TheVariants.{Free, Standing, Lifted}
 use Rattle.protocol.specs.declared.state.Due.{Due}
 use Rattle.protocol.specs.declared.state.Due.TheVariants.{Rest, Snapshots, Adding, Subtracting}
-use Rattle.protocol.specs.History.{IsAttached, EndsAt, IsLiveAt, IsLegal, MayHold}
+use Rattle.protocol.specs.History.{IsAttached, EndsAt, IsLiveAt, IsLegal, MayHold, rank_at}
 use Rattle.protocol.specs.State.{State, row_at, mark_at, passive_at, trying_at, count_at, total_at, kept_at, local_at}
 use Rattle.protocol.specs.Events.{words_of, keeps_rightly, Outcome, narrow_step, grows}
 use Rattle.protocol.specs.declared.event.Event.{Event}
@@ -67,15 +67,15 @@ pub record SlotsShow (h : List Change) (slots : List Slot) : Type 0 where
 abbrev pub RowsShow : List Slot → List RecordWords → Type 0
 RowsShow slots rows = (t : ℕ) (e : Entry) → IsIn e (slot_at slots t) → (row_at rows t ≡ words_of e) × (are_key_words e.rec.name.high e.rec.name.low ≡ true)
 
--- the link x leads to the greatest number below n that was live after k changes, or to the end where there was none
+-- the link x leads to the greatest rank below n that was live after k changes, or to the end where there was none
 pub data Leads (h : List Change) (k n : ℕ) : ℕ → Type 0 where
-  To_end : ((f : Entry) → IsLiveAt h k f → f.number < n → ⊥) → Leads h k n 0
-  To_entry : (e : Entry) → IsLiveAt h k e → e.number < n → ((f : Entry) → IsLiveAt h k f → f.number < n → f.number ≤ e.number) → Leads h k n (suc e.slot)
+  To_end : ((f : Entry) → IsLiveAt h k f → rank_at h f.number < n → ⊥) → Leads h k n 0
+  To_entry : (e : Entry) → IsLiveAt h k e → rank_at h e.number < n → ((f : Entry) → IsLiveAt h k f → rank_at h f.number < n → rank_at h f.number ≤ rank_at h e.number) → Leads h k n (suc e.slot)
 
--- published: the list shows exactly the live entries, newest first
+-- published: the list shows exactly the live entries, by rank, newest first
 pub record ListShows (h : List Change) (slots : List Slot) (head : ℕ) (next : List ℕ) : Type 0 where
   pub first : Leads h (length h) (suc (length h)) head
-  pub links : (t : ℕ) (e : Entry) → slot_at slots t ≡ Live e → Leads h (length h) e.number (slice_index_or next t 0)
+  pub links : (t : ℕ) (e : Entry) → slot_at slots t ≡ Live e → Leads h (length h) (rank_at h e.number) (slice_index_or next t 0)
 
 -- an entry that an open section may hold has its slot
 abbrev pub HeldStay : List Change → List Slot → List (Option ℕ) → Type 0
@@ -84,7 +84,7 @@ HeldStay h slots begins = (c b : ℕ) (e : Entry) → slice_index_or begins c No
 -- frozen links: while an open section may hold an unlinked entry, its link leads to what was below it when it was unlinked
 abbrev pub LinksStay : List Change → List Slot → List ℕ → List (Option ℕ) → Type 0
 LinksStay h slots next begins =
-    (t p c b : ℕ) (e : Entry) → slot_at slots t ≡ Retired e → EndsAt h e.number p → slice_index_or begins c None ≡ Some b → b < p → Leads h p e.number (slice_index_or next t 0)
+    (t p c b : ℕ) (e : Entry) → slot_at slots t ≡ Retired e → EndsAt h e.number p → slice_index_or begins c None ≡ Some b → b < p → Leads h p (rank_at h e.number) (slice_index_or next t 0)
 
 -- grace: an open section of a CPU that has passed, or whose word differs from the snapshot, began at or after the end; words only grow, and a CPU that has passed is not in the section of its snapshot
 pub record MarksHold (h : List Change) (slots : List Slot) (marks : List (List Mark)) (section : List ℕ) (begins : List (Option ℕ)) : Type 0 where
@@ -118,9 +118,9 @@ pub record SeatsShow (cpus seated : ℕ) (begins : List (Option ℕ)) (searches 
   pub unsearching : (c : ℕ) → seated ≤ c → slice_index_or searches c None ≡ None
   pub empty : (c : ℕ) → seated ≤ c → slice_index_or hands c Empty ≡ Empty
 
--- an entry with the sought key that was live from `from` to `to` has a number below n
+-- where an entry with the sought key was live at `from`, and an entry of the same rank is live at `to`, that rank is below n
 abbrev pub AllBelow : List Change → ℕ → ℕ → Key → ℕ → Type 0
-AllBelow h from to key n = (f : Entry) → IsLiveAt h from f → ((p : ℕ) → EndsAt h f.number p → to < p) → key_of f ≡ key → f.number < n
+AllBelow h from to key n = (f g : Entry) → IsLiveAt h from f → IsLiveAt h to g → rank_at h g.number ≡ rank_at h f.number → key_of f ≡ key → rank_at h f.number < n
 
 -- a search that started at `from` is at e, and the pass ends at `to`
 pub record StandsOn (h : List Change) (from to t : ℕ) (e : Entry) : Type 0 where
@@ -132,11 +132,11 @@ pub record StandsOn (h : List Change) (from to t : ℕ) (e : Entry) : Type 0 whe
 -- what is so of the words that a search has loaded, and what it hasn't gone past
 abbrev pub PlaceHolds : List Change → ℕ → ℕ → Key → SearchPlace → Type 0
 PlaceHolds h from to key AtHead = Unit {0}
-PlaceHolds h from to key (AtNext t) = (e : Entry) × StandsOn h from to t e × AllBelow h from to key e.number
-PlaceHolds h from to key (AtNumber t) = (e : Entry) × StandsOn h from to t e × AllBelow h from to key (suc e.number)
-PlaceHolds h from to key (AtKind t n) = (e : Entry) × StandsOn h from to t e × AllBelow h from to key (suc e.number) × (n ≡ e.number)
-PlaceHolds h from to key (AtHigh t n k) = (e : Entry) × StandsOn h from to t e × AllBelow h from to key (suc e.number) × (n ≡ e.number) × (k ≡ kind_word e.rec.kind)
-PlaceHolds h from to key (AtLow t n k x) = (e : Entry) × StandsOn h from to t e × AllBelow h from to key (suc e.number) × (n ≡ e.number) × (k ≡ kind_word e.rec.kind) × (x ≡ e.rec.name.high)
+PlaceHolds h from to key (AtNext t) = (e : Entry) × StandsOn h from to t e × AllBelow h from to key (rank_at h e.number)
+PlaceHolds h from to key (AtNumber t) = (e : Entry) × StandsOn h from to t e × AllBelow h from to key (suc (rank_at h e.number))
+PlaceHolds h from to key (AtKind t n) = (e : Entry) × StandsOn h from to t e × AllBelow h from to key (suc (rank_at h e.number)) × (n ≡ e.number)
+PlaceHolds h from to key (AtHigh t n k) = (e : Entry) × StandsOn h from to t e × AllBelow h from to key (suc (rank_at h e.number)) × (n ≡ e.number) × (k ≡ kind_word e.rec.kind)
+PlaceHolds h from to key (AtLow t n k x) = (e : Entry) × StandsOn h from to t e × AllBelow h from to key (suc (rank_at h e.number)) × (n ≡ e.number) × (k ≡ kind_word e.rec.kind) × (x ≡ e.rec.name.high)
 PlaceHolds h from to key (AtValue t n) = (e : Entry) × StandsOn h from to t e × (n ≡ e.number) × (key ≡ key_of e)
 
 pub record SearchHolds (h : List Change) (begin : Option ℕ) (seen : ℕ) (q : Search) : Type 0 where

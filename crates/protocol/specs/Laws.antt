@@ -1,16 +1,16 @@
 -- The laws of the core, over every list of events.
 use Rattle.std.specs.List.{AllByRecursion}
 use Rattle.std.specs.Prelude.{◌≡◌, ℕ, suc, ◌+◌, ◌*◌, ◌%◌, ◌<◌, ◌≤◌, ◌⊎◌, IsTrue, IsSome, List, [], ◌∷◌, ◌++◌, length, sum_by, Option, Some, None, true, slice_index_or}
-use Rattle.protocol.specs.Types.{Iface, Driver, Entry, Change, Settings, Key}
+use Rattle.protocol.specs.Types.{Iface, Driver, Entry, Change, Attach, Detach, Replace, Settings, Key, Live}
 use Rattle.protocol.specs.declared.event.Event.{Event}
-use Rattle.protocol.specs.declared.event.Event.TheVariants.{Enter, Exit, Hear, Seek, LoadLink, LoadRecord, StoreSlot, StoreNext, Publish, Keep, KeptSub, Vacate, Recall, RecallHead, Refind, Confirm, Try}
+use Rattle.protocol.specs.declared.event.Event.TheVariants.{Enter, Exit, Hear, Seek, LoadLink, LoadRecord, StoreSlot, StoreNext, Publish, Republish, Keep, KeptSub, Vacate, Recall, RecallHead, Refind, Confirm, Try}
 use Rattle.protocol.specs.declared.event.RecordOf.TheVariants.{Search as OfSearch}
 use Rattle.protocol.specs.declared.event.Reply.{Reply}
 use Rattle.protocol.specs.declared.event.Reply.TheVariants.{Done, Word, Found, Missed, Ref, Collected}
 use Rattle.protocol.specs.declared.state.Hand.TheVariants.{Trying}
 use Rattle.protocol.specs.declared.state.Search.{Search}
 use Rattle.registry_values.specs.Common.{are_fit, bias, is_lawful, key_of, slot_at}
-use Rattle.protocol.specs.History.{IsAttached, EndsAt, IsLiveAt, IsLawful, IsNewestAt}
+use Rattle.protocol.specs.History.{IsAttached, EndsAt, IsLiveAt, IsLawful, IsNewestAt, after_change, change_at, rank_at}
 use Rattle.protocol.specs.State.{State, opening, section_at, begin_at, seen_at, search_at, found_at, hand_at, count_at, total_at, live_at, kept_at, trying_at, at_rest}
 use Rattle.protocol.specs.Events.{Outcome, narrow_step, step, state_after}
 use Rattle.protocol.specs.Invariant.{Holds, IsIn, IsCounting, kept_of, held_at, one_if_used, itself}
@@ -67,15 +67,20 @@ given_slot (StoreSlot t k v) = Some t
 given_slot (StoreNext t v) = Some t
 given_slot (Keep t id) = Some t
 given_slot (Publish t) = Some t
+given_slot (Republish t u) = Some t
 given_slot _ = None
+
+-- the event publishes the entry of the slot t, at the head or in another's place
+abbrev pub IsPublishing : ℕ → Event → Type 0
+IsPublishing t event = (event ≡ Publish t) ⊎ ((u : ℕ) × (event ≡ Republish t u))
 
 pub record ReusesSafely (s : State) : Type 0 where
   -- an occupant goes only by Vacate or KeptSub of its slot, when it was detached and nothing holds it
   pub goes : (event : Event) (t n : ℕ) → occupant_of s t ≡ Some n → (occupant_of (after_event s event) t ≡ Some n → ⊥)
       → (destroyed_slot event ≡ Some t) × ((p : ℕ) × EndsAt s.history n p) × IsUnheld (picture s) n
-  -- one comes only by Publish, into a slot without one, and its number is new
+  -- one comes only by Publish or by Republish, into a slot without one, and its number is new
   pub comes : (event : Event) (t n : ℕ) → (occupant_of s t ≡ Some n → ⊥) → occupant_of (after_event s event) t ≡ Some n
-      → (event ≡ Publish t) × (occupant_of s t ≡ None) × (n ≡ suc (length s.history))
+      → IsPublishing t event × (occupant_of s t ≡ None) × (n ≡ suc (length s.history))
   -- only a slot without an occupant is reused
   pub given : (event : Event) (t : ℕ) → given_slot event ≡ Some t → IsAllowed s event → occupant_of s t ≡ None
   -- a number of the history that doesn't have a slot never has it again
@@ -157,12 +162,18 @@ IsNoSeek c e = (key : Key) → e ≡ seek_for c key → ⊥
 abbrev pub SeeksNone : ℕ → List Event → Type 0
 SeeksNone c events = AllByRecursion (IsNoSeek c) events
 
+-- no detach after the first `from` changes of h, up to `to`, is of an entry with this key; an entry that is replaced isn't detached
+abbrev pub IsKept : List Change → ℕ → ℕ → Key → Type 0
+IsKept h from to key = (p : ℕ) (e : Entry) → from < p → p ≤ to → change_at h p ≡ Some (Detach e.number) → IsAttached h e → key_of e ≡ key → ⊥
+
 -- The history was `old` as the search began, is `new` now, and the CPU has seen `seen` of it.
 pub record IsFreshAnswer (old new : List Change) (seen : ℕ) (key : Key) (answer : Option Entry) : Type 0 where
   -- the answer is the registry's at some point from the begin of the search to the end of the CPU's pass
   pub lawful : IsLawful new (length old) seen key answer
   -- an entry with the key that was live as the search began, and isn't detached yet, is the answer
   pub met : (e : Entry) → IsLiveAt old (length old) e → key_of e ≡ key → ((p : ℕ) → EndsAt new e.number p → ⊥) → answer ≡ Some e
+  -- where an entry had the key as the search began, and none with it was detached since, one is found
+  pub kept : (e : Entry) → IsLiveAt old (length old) e → key_of e ≡ key → IsKept new (length old) seen key → answer ≡ None → ⊥
   -- one that was detached before the search began isn't
   pub left : (e : Entry) (p : ℕ) → EndsAt old e.number p → answer ≡ Some e → ⊥
 
@@ -209,6 +220,44 @@ LiveRecalls = Always RecallsLive
 -- and what the head tells is the newest
 abbrev pub NewestRecalls : Type 0
 NewestRecalls = Always RecallsNewest
+
+-- Replacements (list_replace_rcu)
+
+-- A replacement leaves no point of the history without an entry.
+pub record ReplacesAtOnce (s : State) : Type 0 where
+  -- by one change the live entry f of the slot u ends, and e, with its kind and name, is attached in the slot t
+  pub made : (t u : ℕ) (o : Outcome) → step s (Republish t u) ≡ Some o → (e : Entry) × (f : Entry) × (slot_at s.slots u ≡ Live f) × (e.slot ≡ t) × (key_of e ≡ key_of f)
+      × (o.state.history ≡ after_change s.history (Replace f.number (rank_at s.history f.number) e))
+  -- where an entry has a key, one has it at each point from there on, up to a detach
+  pub throughout : (key : Key) (from to k : ℕ) (e : Entry) → IsLiveAt s.history from e → key_of e ≡ key → IsKept s.history from to key → from ≤ k → k ≤ to
+      → (f : Entry) × IsLiveAt s.history k f × (key_of f ≡ key)
+  -- so no lookup over these points is a miss
+  pub answered : (key : Key) (from to : ℕ) (e : Entry) → IsLiveAt s.history from e → key_of e ≡ key → IsKept s.history from to key → IsLawful s.history from to key None → ⊥
+
+-- so it is in every state that events reach
+abbrev pub ReplacedAtOnce : Type 0
+ReplacedAtOnce = Always ReplacesAtOnce
+
+-- the event is a Republish
+abbrev pub IsRepublish : Event → Type 0
+IsRepublish (Republish t u) = Unit {0}
+IsRepublish _ = ⊥
+
+-- one of the events is
+abbrev pub HasRepublish : List Event → Type 0
+HasRepublish [] = ⊥
+HasRepublish (event ∷ events) = IsRepublish event ⊎ HasRepublish events
+
+-- A history of attaches and detaches alone: ranks are numbers, what is attached was so by an Attach, and what has ended by a Detach.
+pub record IsPlain (h : List Change) : Type 0 where
+  pub none : (k n r : ℕ) (e : Entry) → change_at h k ≡ Some (Replace n r e) → ⊥
+  pub rank : (n : ℕ) → rank_at h n ≡ n
+  pub attached : (e : Entry) → IsAttached h e → change_at h e.number ≡ Some (Attach e)
+  pub ends : (n p : ℕ) → EndsAt h n p → change_at h p ≡ Some (Detach n)
+
+-- where no event of the list is a Republish, the history is such a one
+abbrev pub PlainRuns : Type 0
+PlainRuns = (z : Settings) (events : List Event) → (HasRepublish events → ⊥) → IsPlain (after (opening z) events).history
 
 -- Balance
 
@@ -318,6 +367,7 @@ pub record ObeysLaws (s : State) : Type 0 where
   pub whole : SeesAll s
   pub live : RecallsLive s
   pub newest : RecallsNewest s
+  pub replaces : ReplacesAtOnce s
   pub balance : at_rest s.due ≡ true → BalancesAtRest s
   pub grace : EndsByExit s
   -- the invariant goes on, and so does the run of the model

@@ -1,6 +1,6 @@
 -- The registry without words, the steps that are lawful there, and the picture: the model state that a core state shows.
 use Rattle.std.specs.Prelude.{◌≡◌, ℕ, suc, ◌+◌, ◌-◌, ◌<◌, ◌≤◌, ◌==◌, List, [], length, Option, Some, None, true, if◌then◌else◌, ◌∷◌, ◌⊎◌, IsSome, IsTrue, sum_by}
-use Rattle.protocol.specs.Types.{Driver, Entry, Change, Attach, Detach, Key, Settings, Slot, Vacant, Live, Retired}
+use Rattle.protocol.specs.Types.{Driver, Entry, Change, Attach, Detach, Replace, Key, Settings, Slot, Vacant, Live, Retired}
 use Rattle.registry_values.specs.Common.{are_fit, slot_at, has_number, slot_of}
 use Rattle.protocol.specs.History.{after_change, IsAttached, EndsAt, IsLiveAt, IsLegal, MayHold, IsLawful}
 use Rattle.protocol.specs.Events.{keeps_rightly, Outcome, names_lawfully, narrow_step, state_after, step}
@@ -102,6 +102,9 @@ pub data IsModelStep (MayTake : ℕ → ℕ → Type 0) (m : Model) : Model → 
       → IsModelStep MayTake m (record m { history = after_change m.history (Attach e); occupants = put m.occupants e.slot (Some e.number) })
   Detaches : (n : ℕ) → IsLegal (after_change m.history (Detach n))
       → IsModelStep MayTake m (record m { history = after_change m.history (Detach n) })
+  -- an attach in the place of the entry n, which it ends by the same change
+  Replaces : (n r : ℕ) (e : Entry) → m.occupants e.slot ≡ None → IsLegal (after_change m.history (Replace n r e)) → e.number ≡ suc (length m.history) → keeps_rightly (m.keeps e.slot) e.rec.kind ≡ true
+      → IsModelStep MayTake m (record m { history = after_change m.history (Replace n r e); occupants = put m.occupants e.slot (Some e.number) })
   -- a slot without an occupant, and keeping nothing, takes over one local reference to a driver
   Keeps : (t d : ℕ) → m.occupants t ≡ None → m.keeps t ≡ None → IsDriverHere m d → 0 < m.locals d
       → IsModelStep MayTake m (record (with_locals m d (m.locals d - 1)) { keeps = put m.keeps t (Some d) })

@@ -39,6 +39,8 @@ pub enum Event {
     Publish(u8),
     /// The slot's entry is unlinked.
     Unpublish(u8),
+    /// The slot's entry is linked in the place of another slot's live one, which is unlinked by the same store. The new one's slot, the old one's.
+    Republish(u8, u8),
     /// A note of the CPU's pass, or of the keeper's history, is split off.
     Tell(Option<u8>),
     /// A note is joined into the CPU's seat, or into the keeper's.
@@ -120,7 +122,7 @@ pub enum StepFault {
     /// The event's condition fails.
     #[error("the event isn't allowed here")]
     NotAllowed,
-    /// A list couldn't grow; only `Publish`, `Unpublish` and `SplitRef` grow one.
+    /// A list couldn't grow; only `Publish`, `Unpublish`, `Republish` and `SplitRef` grow one.
     #[error("out of memory")]
     NoMemory,
 }

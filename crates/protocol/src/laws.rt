@@ -1,9 +1,9 @@
 //! The laws of the core, over every list of events and of every state with the core invariant: functions that do nothing, whose contracts are
 //! the laws.
 
-ghost use Rattle.protocol.specs.Laws.{BalanceAtRest, DriversOutlive, EveryRunKeeps, FreshAnswers, GraceLaw, Headline, InvariantSuffices, LawfulAnswers, LiveRecalls, NarrowEvents, NarrowNames, NarrowRuns, NewestRecalls, SafeReuse, UntriedRuns, WholePasses};
+ghost use Rattle.protocol.specs.Laws.{BalanceAtRest, DriversOutlive, EveryRunKeeps, FreshAnswers, GraceLaw, Headline, InvariantSuffices, LawfulAnswers, LiveRecalls, NarrowEvents, NarrowNames, NarrowRuns, NewestRecalls, PlainRuns, ReplacedAtOnce, SafeReuse, UntriedRuns, WholePasses};
 ghost use Rattle.protocol.specs.Model.{EveryRunIsModelRun};
-ghost use Rattle.protocol.specs.Rows.{CollectRace, FrozenLink, TryRace};
+ghost use Rattle.protocol.specs.Rows.{CollectRace, FrozenLink, KeptDriver, ReplaceRace, ReplacedUnder, TryRace};
 
 /// Theorem, no effect at run time: the headline for the core. After every list of events from the opening:
 ///
@@ -62,6 +62,17 @@ pub fn fresh_answers()
     ensures newest { NewestRecalls }
 {}
 
+/// Theorem, no effect at run time: an entry that takes another's place leaves no gap.
+///
+/// - `at_once`: a `Republish` ends one entry and attaches another, of the same kind and name, by one change. Where an entry has a kind and name,
+///   one has them at each point from there on, up to a detach; so no lookup over these points is a miss.
+/// - `plain`: where no event is a Republish, the history is one of attaches and detaches alone, and ranks are numbers.
+#[tactic(auto, using(crate::proofs::runs::Replacing::replaced_at_once, crate::proofs::runs::Replacing::plain_runs))]
+pub fn replaces()
+    ensures at_once { ReplacedAtOnce }
+    ensures plain { PlainRuns }
+{}
+
 /// Theorem, no effect at run time: at rest the balance of each slot is its local references held.
 #[tactic(auto, using(crate::proofs::runs::Headline::balance_at_rest))]
 pub fn balance_at_rest()
@@ -98,14 +109,20 @@ pub fn narrow_runs()
     ensures names { NarrowNames }
 {}
 
-/// Theorem, no effect at run time: three lists of events reply as written, so the definitions aren't vacuous.
+/// Theorem, no effect at run time: six lists of events reply as written, so the definitions aren't vacuous.
 ///
 /// - `frozen_link`: a search goes on along the frozen link of an unlinked entry.
 /// - `collect_race`: a reference is given back while its count is collected.
 /// - `try_race`: a CPU recalls an entry and gets a passive reference to it without a section; it comes too late for an entry that is
 ///   detached meanwhile, and for a slot that is freed and given again. It recalls the head, and finds an entry again in a section alone.
+/// - `replace_race`: a search finds the old entry or the new one as one takes the other's place.
+/// - `replaced_under`: a search stands on an entry while it and the next one are replaced: it goes on along the frozen link.
+/// - `kept_driver`: a detached driver keeps its slot until its interface is freed.
 pub fn worked_run()
     ensures frozen_link { FrozenLink }
     ensures collect_race { CollectRace }
     ensures try_race { TryRace }
+    ensures replace_race { ReplaceRace }
+    ensures replaced_under { ReplacedUnder }
+    ensures kept_driver { KeptDriver }
 {}

@@ -1,119 +1,97 @@
 //! The calls of one CPU.
 
 ghost use Rattle.std.specs.Prelude.{◌≡◌};
-ghost use Rattle.name_registry.specs.Common.{is_inside};
 ghost use Rattle.c_handles.specs.declared.values.plain.TheConstants.{DONE};
 ghost use Rattle.c_handles.specs.values.Places.{put};
-ghost use Rattle.c_calls.specs.Calls.{Acquires, Copies, CpuCloses, Enters, Exits, FindsNamed, HoldsSay, Reads, Releases, Through};
+ghost use Rattle.c_calls.specs.Calls.{Enters, Exits, Through};
+ghost use Rattle.c_calls.specs.References.{Acquires, Copies, GetsInto, HoldsSay, Releases};
 
-use c_calls::through_cpu;
+use c_calls::{references, sections};
 use c_handles::handle::CpuHandle;
-use c_handles::values::answer::{EntryAnswer, FlagAnswer, NamedAnswer, NumberAnswer};
-use c_handles::values::given::GivenName;
-use c_handles::values::place::{EntryPlace, FlagPlace, NumberPlace};
-use std::alloc::Global;
+use c_handles::values::answer::{FlagAnswer, GivenEntryAnswer, GivenNameAnswer, NumberAnswer};
+use c_handles::values::given::{GivenEntry, GivenName};
+use c_handles::values::place::{FlagPlace, NumberPlace};
+use c_handles::values::plain::CPassive;
 
-/// `registry_close_cpu` of the header.
+/// `kupaldiz_enter` of the header.
 #[unsafe(no_mangle)]
-pub extern "C" fn registry_close_cpu(alloc: Global, cpu: &mut CpuHandle) -> u32
-    ensures { CpuCloses cpu.old.body cpu.new.body result }
-{
-    through_cpu::close(alloc, cpu)
-}
-
-/// `registry_enter` of the header.
-#[unsafe(no_mangle)]
-pub extern "C" fn registry_enter(cpu: &mut CpuHandle) -> u32
+pub extern "C" fn kupaldiz_enter(cpu: &mut CpuHandle) -> u32
     ensures { Through cpu.old.body cpu.new.body result (Unit {0}) (λ a b. Enters a b result) }
 {
-    through_cpu::enter(cpu)
+    sections::enter(cpu)
 }
 
-/// `registry_exit` of the header.
+/// `kupaldiz_exit` of the header.
 #[unsafe(no_mangle)]
-pub extern "C" fn registry_exit(cpu: &mut CpuHandle) -> u32
+pub extern "C" fn kupaldiz_exit(cpu: &mut CpuHandle) -> u32
     ensures { Through cpu.old.body cpu.new.body result (Unit {0}) (λ a b. Exits a b result) }
 {
-    through_cpu::exit(cpu)
+    sections::exit(cpu)
 }
 
-/// `registry_inside` of the header.
+/// `kupaldiz_depth` of the header.
 #[unsafe(no_mangle)]
-pub extern "C" fn registry_inside(cpu: &mut CpuHandle, inside: FlagPlace) -> FlagAnswer
-    ensures place { result.place.at ≡ inside.at }
-    ensures call { Through cpu.old.body cpu.new.body result.number (result.place.value ≡ inside.value)
-        (λ a b. (result.number ≡ DONE) × (b ≡ a) × (result.place.value ≡ put inside.value (is_inside a.cpu))) }
-{
-    through_cpu::inside(cpu, inside)
-}
-
-/// `registry_depth` of the header.
-#[unsafe(no_mangle)]
-pub extern "C" fn registry_depth(cpu: &mut CpuHandle, depth: NumberPlace) -> NumberAnswer
+pub extern "C" fn kupaldiz_depth(cpu: &mut CpuHandle, depth: NumberPlace) -> NumberAnswer
     ensures place { result.place.at ≡ depth.at }
     ensures call { Through cpu.old.body cpu.new.body result.number (result.place.value ≡ depth.value)
         (λ a b. (result.number ≡ DONE) × (b ≡ a) × (result.place.value ≡ put depth.value a.cpu.depth)) }
 {
-    through_cpu::depth(cpu, depth)
+    sections::depth(cpu, depth)
 }
 
-/// `registry_find` of the header.
+/// `kupaldiz_get` of the header.
 #[unsafe(no_mangle)]
-pub extern "C" fn registry_find(
+pub extern "C" fn kupaldiz_get(
     cpu: &mut CpuHandle,
-    kind: u64,
+    kind: u32,
     name: GivenName,
-    found: EntryPlace,
-) -> NamedAnswer
-    ensures places { (result.name ≡ name) × (result.place.at ≡ found.at) }
-    ensures call { Through cpu.old.body cpu.new.body result.number (result.place.value ≡ found.value)
-        (λ a b. FindsNamed kind name.name a b result.number found.value result.place.value) }
+    reference: &mut CPassive,
+) -> GivenNameAnswer
+    ensures given { result.name ≡ name }
+    ensures call { Through cpu.old.body cpu.new.body result.number (reference.new ≡ reference.old)
+        (λ a b. GetsInto kind name.name a b result.number reference.old reference.new) }
 {
-    through_cpu::find(cpu, kind, name, found)
+    references::get(cpu, kind, name, reference)
 }
 
-/// `registry_acquire` of the header.
+/// `kupaldiz_acquire` of the header.
 #[unsafe(no_mangle)]
-pub extern "C" fn registry_acquire(cpu: &mut CpuHandle, number: NumberPlace) -> NumberAnswer
-    ensures place { result.place.at ≡ number.at }
-    ensures call { Through cpu.old.body cpu.new.body result.number (result.place.value ≡ number.value)
-        (λ a b. Acquires a b result.number number.value result.place.value) }
+pub extern "C" fn kupaldiz_acquire(
+    cpu: &mut CpuHandle,
+    entry: GivenEntry,
+    reference: &mut CPassive,
+) -> GivenEntryAnswer
+    ensures given { result.entry ≡ entry }
+    ensures call { Through cpu.old.body cpu.new.body result.number (reference.new ≡ reference.old)
+        (λ a b. Acquires entry.entry a b result.number reference.old reference.new) }
 {
-    through_cpu::acquire(cpu, number)
+    references::acquire(cpu, entry, reference)
 }
 
-/// `registry_copy` of the header.
+/// `kupaldiz_copy` of the header.
 #[unsafe(no_mangle)]
-pub extern "C" fn registry_copy(cpu: &mut CpuHandle, number: u64) -> u32
-    ensures { Through cpu.old.body cpu.new.body result (Unit {0}) (λ a b. Copies number a b result) }
+pub extern "C" fn kupaldiz_copy(cpu: &mut CpuHandle, from: &CPassive, copy: &mut CPassive) -> u32
+    ensures { Through cpu.old.body cpu.new.body result (copy.new ≡ copy.old)
+        (λ a b. Copies from.now a b result copy.old copy.new) }
 {
-    through_cpu::copy(cpu, number)
+    references::copy(cpu, from, copy)
 }
 
-/// `registry_held` of the header.
+/// `kupaldiz_release` of the header.
 #[unsafe(no_mangle)]
-pub extern "C" fn registry_held(cpu: &mut CpuHandle, number: u64, held: FlagPlace) -> FlagAnswer
+pub extern "C" fn kupaldiz_release(cpu: &mut CpuHandle, reference: &mut CPassive) -> u32
+    ensures { Through cpu.old.body cpu.new.body result (reference.new ≡ reference.old)
+        (λ a b. Releases reference.old a b result reference.new) }
+{
+    references::release(cpu, reference)
+}
+
+/// `kupaldiz_held` of the header.
+#[unsafe(no_mangle)]
+pub extern "C" fn kupaldiz_held(cpu: &mut CpuHandle, number: u64, held: FlagPlace) -> FlagAnswer
     ensures place { result.place.at ≡ held.at }
     ensures call { Through cpu.old.body cpu.new.body result.number (result.place.value ≡ held.value)
         (λ a b. (result.number ≡ DONE) × (b ≡ a) × HoldsSay number a held.value result.place.value) }
 {
-    through_cpu::held(cpu, number, held)
-}
-
-/// `registry_read` of the header.
-#[unsafe(no_mangle)]
-pub extern "C" fn registry_read(cpu: &mut CpuHandle, number: u64, entry: EntryPlace) -> EntryAnswer
-    ensures place { result.place.at ≡ entry.at }
-    ensures call { Through cpu.old.body cpu.new.body result.number (result.place.value ≡ entry.value)
-        (λ a b. Reads number a b result.number entry.value result.place.value) }
-{
-    through_cpu::read(cpu, number, entry)
-}
-
-/// `registry_release` of the header.
-#[unsafe(no_mangle)]
-pub extern "C" fn registry_release(cpu: &mut CpuHandle, number: u64) -> u32
-    ensures { Through cpu.old.body cpu.new.body result (Unit {0}) (λ a b. Releases number a b result) }
-{
-    through_cpu::release(cpu, number)
+    references::held(cpu, number, held)
 }

@@ -1,91 +1,97 @@
 //! The calls of local references.
 
 ghost use Rattle.std.specs.Prelude.{◌≡◌};
-ghost use Rattle.c_calls.specs.Calls.{AreOfOne, IsOfCpu, IsOfKeeper, Through};
-ghost use Rattle.c_calls.specs.LocalCalls.{AttachesIfaceNamed, LocalAcquireAnswers, LocalForgets, LocalGivesUp, LocalReleases, ThroughAll, ThroughLocal};
-ghost use Rattle.c_handles.specs.declared.values.plain.TheConstants.{DONE};
-ghost use Rattle.c_handles.specs.values.Places.{put};
-ghost use Rattle.c_handles.specs.values.Texts.{entry_out};
+ghost use Rattle.c_handles.specs.Heap.{IsLong};
+ghost use Rattle.c_handles.specs.OnHandle.{held_by};
+ghost use Rattle.c_calls.specs.Calls.{IsOfCpu, IsOfKeeper, Through};
+ghost use Rattle.c_calls.specs.LocalCalls.{AcquiresLocal, AreOfOneRow, GetsLocalNamed, LocalCopies, LocalForgets, LocalReleases, ReleasesLocked, ThroughLocal};
 
-use c_calls::through_local;
-use c_handles::handle::{CpuHandle, KeeperHandle, LocalHandle};
-use c_handles::values::answer::{EntryAnswer, NamedAnswer};
-use c_handles::values::given::GivenName;
-use c_handles::values::place::EntryPlace;
+use c_calls::locals;
+use c_handles::answer::CpusAnswer;
+use c_handles::handle::{CpuHandle, KeeperHandle};
+use c_handles::local_handle::LocalHandle;
+use c_handles::rows::CpusPlace;
+use c_handles::values::answer::{GivenEntryAnswer, GivenNameAnswer};
+use c_handles::values::given::{GivenEntry, GivenName};
 use std::alloc::Global;
 
-/// `registry_local_acquire` of the header.
+/// `kupaldiz_get_local` of the header.
 #[unsafe(no_mangle)]
-pub extern "C" fn registry_local_acquire(
+pub extern "C" fn kupaldiz_get_local(
     alloc: Global,
     cpu: &mut CpuHandle,
-    local: &mut LocalHandle,
-) -> u32
-    ensures { LocalAcquireAnswers cpu.old.body cpu.new.body local.old.body local.new.body result }
-{
-    through_local::acquire(alloc, cpu, local)
-}
-
-/// `registry_local_read` of the header.
-#[unsafe(no_mangle)]
-pub extern "C" fn registry_local_read(local: &mut LocalHandle, entry: EntryPlace) -> EntryAnswer
-    ensures place { result.place.at ≡ entry.at }
-    ensures call { Through local.old.body local.new.body result.number (result.place.value ≡ entry.value)
-        (λ v w. (result.number ≡ DONE) × (w ≡ v) × (result.place.value ≡ put entry.value (entry_out v.reference.entry))) }
-{
-    through_local::read(local, entry)
-}
-
-/// `registry_local_release` of the header.
-#[unsafe(no_mangle)]
-pub extern "C" fn registry_local_release(
-    alloc: Global,
-    cpu: &mut CpuHandle,
-    local: &mut LocalHandle,
-) -> u32
-    requires { IsOfCpu cpu.old.body local.old.body }
-    ensures { ThroughLocal cpu.old.body cpu.new.body local.old.body local.new.body result (λ a v b l. LocalReleases a v b result l) }
-{
-    through_local::release(alloc, cpu, local)
-}
-
-/// `registry_local_give_up` of the header.
-#[unsafe(no_mangle)]
-pub extern "C" fn registry_local_give_up(
-    alloc: Global,
-    keeper: &mut KeeperHandle,
-    local: &mut LocalHandle,
-) -> u32
-    requires { IsOfKeeper keeper.old.body local.old.body }
-    ensures { ThroughLocal keeper.old.body keeper.new.body local.old.body local.new.body result (λ k v j l. LocalGivesUp k v j result l) }
-{
-    through_local::give_up(alloc, keeper, local)
-}
-
-/// `registry_local_forget` of the header.
-#[unsafe(no_mangle)]
-pub extern "C" fn registry_local_forget(alloc: Global, local: &mut LocalHandle) -> u32
-    ensures { LocalForgets local.old.body local.new.body result }
-{
-    through_local::forget(alloc, local)
-}
-
-/// `registry_attach_iface` of the header.
-#[unsafe(no_mangle)]
-pub extern "C" fn registry_attach_iface(
-    alloc: Global,
-    keeper: &mut KeeperHandle,
-    cpu: &mut CpuHandle,
-    driver: &mut LocalHandle,
+    kind: u32,
     name: GivenName,
-    value: u64,
-    made: EntryPlace,
-) -> NamedAnswer
-    requires same { AreOfOne keeper.old.body cpu.old.body }
-    requires driver { IsOfKeeper keeper.old.body driver.old.body }
-    ensures places { (result.name ≡ name) × (result.place.at ≡ made.at) }
-    ensures call { ThroughAll keeper.old.body keeper.new.body cpu.old.body cpu.new.body driver.old.body driver.new.body result.number (result.place.value ≡ made.value)
-        (λ k c v j d l. AttachesIfaceNamed name.name value k c v j d l result.number made.value result.place.value) }
+    local: &mut LocalHandle,
+) -> GivenNameAnswer
+    ensures given { result.name ≡ name }
+    ensures call { Through cpu.old.body cpu.new.body result.number (held_by local.new ≡ held_by local.old)
+        (λ a b. GetsLocalNamed kind name.name a b result.number (held_by local.old) (held_by local.new)) }
 {
-    through_local::attach_iface(alloc, keeper, cpu, driver, name, value, made)
+    locals::get_local(alloc, cpu, kind, name, local)
+}
+
+/// `kupaldiz_acquire_local` of the header.
+#[unsafe(no_mangle)]
+pub extern "C" fn kupaldiz_acquire_local(
+    alloc: Global,
+    cpu: &mut CpuHandle,
+    entry: GivenEntry,
+    local: &mut LocalHandle,
+) -> GivenEntryAnswer
+    ensures given { result.entry ≡ entry }
+    ensures call { Through cpu.old.body cpu.new.body result.number (held_by local.new ≡ held_by local.old)
+        (λ a b. AcquiresLocal entry.entry a b result.number (held_by local.old) (held_by local.new)) }
+{
+    locals::acquire_local(alloc, cpu, entry, local)
+}
+
+/// `kupaldiz_copy_local` of the header.
+#[unsafe(no_mangle)]
+pub extern "C" fn kupaldiz_copy_local(
+    alloc: Global,
+    from: &mut LocalHandle,
+    copy: &mut LocalHandle,
+) -> u32
+    ensures { LocalCopies (held_by from.old) (held_by from.new) (held_by copy.old) (held_by copy.new) result }
+{
+    locals::copy_local(alloc, from, copy)
+}
+
+/// `kupaldiz_release_local_locked` of the header. The place is of one CPU's handle, or null.
+#[unsafe(no_mangle)]
+pub extern "C" fn kupaldiz_release_local_locked(
+    alloc: Global,
+    keeper: &mut KeeperHandle,
+    cpu: CpusPlace,
+    local: &mut LocalHandle,
+) -> CpusAnswer
+    requires one { IsLong cpu.value 1 }
+    requires same { AreOfOneRow keeper.old.body cpu.value }
+    requires local { IsOfKeeper keeper.old.body (held_by local.old) }
+    ensures place { result.cpus.at ≡ cpu.at }
+    ensures call { ReleasesLocked keeper.old.body keeper.new.body cpu.value result.cpus.value (held_by local.old) (held_by local.new) result.number }
+{
+    locals::release_local_locked(alloc, keeper, cpu, local)
+}
+
+/// `kupaldiz_try_release_local` of the header.
+#[unsafe(no_mangle)]
+pub extern "C" fn kupaldiz_try_release_local(
+    alloc: Global,
+    cpu: &mut CpuHandle,
+    local: &mut LocalHandle,
+) -> u32
+    requires { IsOfCpu cpu.old.body (held_by local.old) }
+    ensures { ThroughLocal cpu.old.body cpu.new.body (held_by local.old) (held_by local.new) result (λ a v b l. LocalReleases a v b result l) }
+{
+    locals::try_release_local(alloc, cpu, local)
+}
+
+/// `kupaldiz_forget_local` of the header.
+#[unsafe(no_mangle)]
+pub extern "C" fn kupaldiz_forget_local(alloc: Global, local: &mut LocalHandle) -> u32
+    ensures { LocalForgets (held_by local.old) (held_by local.new) result }
+{
+    locals::forget_local(alloc, local)
 }

@@ -2,14 +2,15 @@
 
 ghost use Rattle.std.specs.Prelude.{◌≡◌};
 ghost use Rattle.c_handles.specs.Heap.{IsLong};
-ghost use Rattle.c_calls.specs.Opening.{OpensInto, bodies_of};
+ghost use Rattle.c_calls.specs.Opening.{ClosesRow, OpensInto, bodies_of};
 ghost use Rattle.c_calls.specs.Calls.{Through, WalksBy};
 ghost use Rattle.c_calls.specs.Audits.{AreAllOf, AuditsRows};
 ghost use Rattle.c_handles.specs.values.Places.{row_in};
 
 use c_calls::{audit, opening, walks};
-use c_handles::answer::{AuditAnswer, OpenedAnswer};
+use c_handles::answer::{AuditAnswer, ClosedAnswer, OpenedAnswer};
 use c_handles::handle::{CpuHandle, KeeperHandle};
+use c_handles::keeper_place::KeeperPlace;
 use c_handles::rows::CpusPlace;
 use c_handles::values::answer::WalkAnswer;
 use c_handles::values::given::GivenSettings;
@@ -17,9 +18,9 @@ use c_handles::values::place::NumberPlace;
 use c_handles::values::rows::{BalancesPlace, EntriesPlace};
 use std::alloc::Global;
 
-/// `registry_open` of the header.
+/// `kupaldiz_open` of the header.
 #[unsafe(no_mangle)]
-pub extern "C" fn registry_open(
+pub extern "C" fn kupaldiz_open(
     alloc: Global,
     settings: GivenSettings,
     keeper: &mut KeeperHandle,
@@ -34,9 +35,24 @@ pub extern "C" fn registry_open(
     opening::open_registry(alloc, settings, keeper, cpus, count)
 }
 
-/// `registry_walk` of the header.
+/// `kupaldiz_close` of the header.
 #[unsafe(no_mangle)]
-pub extern "C" fn registry_walk(
+pub extern "C" fn kupaldiz_close(
+    alloc: Global,
+    keeper: KeeperPlace,
+    cpus: CpusPlace,
+    count: usize,
+) -> ClosedAnswer
+    requires count { IsLong cpus.value count }
+    ensures places { (result.keeper.at ≡ keeper.at) × (result.cpus.at ≡ cpus.at) }
+    ensures call { ClosesRow keeper.value result.keeper.value count cpus.value result.cpus.value result.number }
+{
+    opening::close(alloc, keeper, cpus, count)
+}
+
+/// `kupaldiz_walk` of the header.
+#[unsafe(no_mangle)]
+pub extern "C" fn kupaldiz_walk(
     cpu: &mut CpuHandle,
     row: EntriesPlace,
     room: usize,
@@ -50,9 +66,9 @@ pub extern "C" fn registry_walk(
     walks::walk_entries(cpu, row, room, count)
 }
 
-/// `registry_audit` of the header.
+/// `kupaldiz_audit` of the header.
 #[unsafe(no_mangle)]
-pub extern "C" fn registry_audit(
+pub extern "C" fn kupaldiz_audit(
     keeper: &mut KeeperHandle,
     cpus: CpusPlace,
     count: usize,

@@ -1,55 +1,58 @@
-//! The calls of the usual path.
+//! Lookups.
 
 ghost use Rattle.std.specs.Prelude.{◌≡◌};
-ghost use Rattle.c_calls.specs.Calls.{Through, EntersAndFinds, Gets, LooksUp};
+ghost use Rattle.c_calls.specs.Calls.{Asks, EntersAndFindsFor, FindsFor, LooksUpFor, Through};
 
-use c_calls::through_usual;
+use c_calls::lookups;
 use c_handles::handle::CpuHandle;
 use c_handles::values::answer::NamedAnswer;
 use c_handles::values::given::GivenName;
 use c_handles::values::place::EntryPlace;
 
-/// `registry_look_up` of the header.
+/// `kupaldiz_look_up` of the header.
 #[unsafe(no_mangle)]
-pub extern "C" fn registry_look_up(
+pub extern "C" fn kupaldiz_look_up(
     cpu: &mut CpuHandle,
-    kind: u64,
+    kind: u32,
     name: GivenName,
     found: EntryPlace,
 ) -> NamedAnswer
     ensures places { (result.name ≡ name) × (result.place.at ≡ found.at) }
     ensures call { Through cpu.old.body cpu.new.body result.number (result.place.value ≡ found.value)
-        (λ a b. LooksUp kind name.name a b result.number found.value result.place.value) }
+        (λ a b. Asks kind name.name result.number ((b ≡ a) × (result.place.value ≡ found.value))
+        (λ key. LooksUpFor key a b result.number found.value result.place.value)) }
 {
-    through_usual::look_up(cpu, kind, name, found)
+    lookups::look_up(cpu, kind, name, found)
 }
 
-/// `registry_get` of the header.
+/// `kupaldiz_find` of the header.
 #[unsafe(no_mangle)]
-pub extern "C" fn registry_get(
+pub extern "C" fn kupaldiz_find(
     cpu: &mut CpuHandle,
-    kind: u64,
+    kind: u32,
     name: GivenName,
     found: EntryPlace,
 ) -> NamedAnswer
     ensures places { (result.name ≡ name) × (result.place.at ≡ found.at) }
     ensures call { Through cpu.old.body cpu.new.body result.number (result.place.value ≡ found.value)
-        (λ a b. Gets kind name.name a b result.number found.value result.place.value) }
+        (λ a b. Asks kind name.name result.number ((b ≡ a) × (result.place.value ≡ found.value))
+        (λ key. FindsFor key a b result.number found.value result.place.value)) }
 {
-    through_usual::get(cpu, kind, name, found)
+    lookups::find(cpu, kind, name, found)
 }
 
-/// `registry_enter_find` of the header.
+/// `kupaldiz_enter_find` of the header.
 #[unsafe(no_mangle)]
-pub extern "C" fn registry_enter_find(
+pub extern "C" fn kupaldiz_enter_find(
     cpu: &mut CpuHandle,
-    kind: u64,
+    kind: u32,
     name: GivenName,
     found: EntryPlace,
 ) -> NamedAnswer
     ensures places { (result.name ≡ name) × (result.place.at ≡ found.at) }
     ensures call { Through cpu.old.body cpu.new.body result.number (result.place.value ≡ found.value)
-        (λ a b. EntersAndFinds kind name.name a b result.number found.value result.place.value) }
+        (λ a b. Asks kind name.name result.number ((b ≡ a) × (result.place.value ≡ found.value))
+        (λ key. EntersAndFindsFor key a b result.number found.value result.place.value)) }
 {
-    through_usual::enter_find(cpu, kind, name, found)
+    lookups::enter_find(cpu, kind, name, found)
 }

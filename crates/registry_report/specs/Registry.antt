@@ -1,31 +1,27 @@
 -- The registry as a script sees it: a history, a model state, and beside it depths, counts, tallies and labels.
-use Rattle.std.specs.Prelude.{ℕ, zero, suc, ◌-◌, ◌==◌, nat_lt, List, position, count_by, Option, Some, None, is_some, Bool, true, false, not, if◌then◌else◌}
-use Rattle.registry_report.specs.Types.{Entry, Change, Attach, Detach, Key, CorePsref, Settings}
+use Rattle.std.specs.Prelude.{ℕ, zero, suc, ◌-◌, ◌==◌, nat_lt, List, position, count_by, Option, Some, None, is_some, Bool, true, false, if◌then◌else◌}
+use Rattle.registry_report.specs.Types.{Entry, Change, Attach, Detach, Replace, Key, CorePsref, Settings}
 use Rattle.registry_values.specs.Common.{key_of, same_key, is_driver}
-use Rattle.protocol.specs.Common.{is_number, Model, empty_model}
+use Rattle.protocol.specs.Common.{is_number, Model, empty_model, brought_by}
 use Rattle.protocol.specs.History.{change_at}
 
 -- What a history says: the result of a lookup, the entry with a number, its end, how many entries are live.
 
--- an attach of the key is the answer from then on, and its detach takes it away
+-- an entry with the key that is attached, or takes another's place, is the answer from then on, and its detach takes it away
 abbrev pub answer_after : Key → Option Entry → Option Change → Option Entry
 answer_after key answer None = answer
 answer_after key answer (Some (Attach e)) = if same_key (key_of e) key then Some e else answer
 answer_after key answer (Some (Detach n)) = if is_number n answer then None else answer
+answer_after key answer (Some (Replace n r e)) = if same_key (key_of e) key then Some e else answer
 
 -- the entry with this key that is live after the first k changes
 abbrev pub lookup : List Change → Key → ℕ → Option Entry
 lookup h key zero = None
 lookup h key (suc k) = answer_after key (lookup h key k) (change_at h (suc k))
 
-abbrev pub entry_of_attach : Option Change → Option Entry
-entry_of_attach None = None
-entry_of_attach (Some (Attach e)) = Some e
-entry_of_attach (Some (Detach n)) = None
-
 -- the entry with this number
 abbrev pub entry_of : List Change → ℕ → Option Entry
-entry_of h n = entry_of_attach (change_at h n)
+entry_of h n = brought_by (change_at h n)
 
 abbrev pub is_driver_entry : Option Entry → Bool
 is_driver_entry None = false
@@ -45,6 +41,7 @@ value_of h n = value_in (entry_of h n)
 abbrev pub is_end_of : ℕ → Change → Bool
 is_end_of n (Attach e) = false
 is_end_of n (Detach m) = m == n
+is_end_of n (Replace m r e) = m == n
 
 abbrev pub place_after : Option ℕ → Option ℕ
 place_after None = None
@@ -60,10 +57,16 @@ has_ended h n = is_some (end_of h n)
 abbrev pub is_attach : Change → Bool
 is_attach (Attach e) = true
 is_attach (Detach n) = false
+is_attach (Replace n r e) = false
 
--- attaches less detaches
+abbrev pub is_detach : Change → Bool
+is_detach (Attach e) = false
+is_detach (Detach n) = true
+is_detach (Replace n r e) = false
+
+-- attaches less detaches: one entry in another's place leaves as many
 abbrev pub live_entries : List Change → ℕ
-live_entries h = count_by is_attach h - count_by (λ c. not (is_attach c)) h
+live_entries h = count_by is_attach h - count_by is_detach h
 
 -- a section that began at b, if one is open, may hold an entry with this end (pserialize(9), read sections)
 abbrev pub may_hold : Option ℕ → Option ℕ → Bool

@@ -123,7 +123,7 @@ ReportIsModelRun = (p : Program) → IsProgram p → IsModelRun TakesNone empty_
 abbrev pub LookupIsExact : Type 0
 LookupIsExact = (h : List Change) → IsLegal h → (key : Key) (k : ℕ) → IsLookup h k key (lookup h key k)
 
--- The end that is computed is where the entry is detached.
+-- The end that is computed is where the entry is detached or replaced.
 abbrev pub EndIsExact : Type 0
 EndIsExact = (h : List Change) → IsLegal h → (n p : ℕ) → (end_of h n ≡ Some p) ↔ EndsAt h n p
 

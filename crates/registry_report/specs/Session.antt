@@ -1,12 +1,12 @@
 -- A session over the core, what it shows of a registry, and what a call gave and left.
-use Rattle.std.specs.Prelude.{◌≡◌, ℕ, true, List, length, Option, Some, None, Result, Ok, Err, replicate, slice_index_or, ◌+◌, ◌*◌, ◌<◌, sum_by, count_by, not, is_some, Bool, false}
+use Rattle.std.specs.Prelude.{◌≡◌, ℕ, true, List, length, Option, Some, None, Result, Ok, Err, replicate, slice_index_or, ◌+◌, ◌*◌, ◌<◌, sum_by, count_by, is_some, Bool, false}
 use Rattle.registry_report.specs.Types.{CorePsref, Entry, Change, Hand, Slot, Retired, Mark, LocalPlace, NoMemory, Command}
 use Rattle.registry_values.specs.Common.{bias, slot_at, live_count, slot_of}
 use Rattle.protocol.specs.Common.{Holds, State, mark_at, count_at, total_at, kept_at, local_at, EndsAt, number_standing, IsIn, standing_of, one_if, Model, number_in, passive_in}
 use Rattle.passive_core.specs.Common.{IsQuiet, is_live_local}
 use Rattle.registry_report.specs.declared.hitch.Hitch.{Hitch}
 use Rattle.registry_report.specs.declared.hitch.Hitch.TheVariants.{NoLabel, Refused}
-use Rattle.registry_report.specs.Registry.{is_attach, Registry}
+use Rattle.registry_report.specs.Registry.{is_attach, is_detach, Registry}
 use Rattle.registry_report.specs.Report.{after}
 
 -- The core, and the references of the labels.
@@ -63,7 +63,7 @@ pub record ShowsSections (section depths : List ℕ) (begins : List (Option ℕ)
 
 -- attaches less detaches are the live slots
 abbrev pub CountsLive : List Change → List Slot → Type 0
-CountsLive h slots = count_by is_attach h ≡ count_by (λ c. not (is_attach c)) h + live_count slots
+CountsLive h slots = count_by is_attach h ≡ count_by is_detach h + live_count slots
 
 -- a section with the snapshot's word was begun before the entry's end
 abbrev pub SnapshotsFollow : List Change → List Slot → List (List Mark) → List ℕ → List (Option ℕ) → Type 0

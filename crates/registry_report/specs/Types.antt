@@ -2,7 +2,7 @@
 pub use Rattle.registry_values.specs.declared.answer.Room.{Room}
 pub use Rattle.registry_values.specs.declared.balance.Balance.{Balance}
 pub use Rattle.registry_values.specs.declared.entry.Change.{Change}
-pub use Rattle.registry_values.specs.declared.entry.Change.TheVariants.{Attach, Detach}
+pub use Rattle.registry_values.specs.declared.entry.Change.TheVariants.{Attach, Detach, Replace}
 pub use Rattle.registry_values.specs.declared.entry.Entry.{Entry}
 pub use Rattle.registry_values.specs.declared.entry.Kind.{Kind}
 pub use Rattle.registry_values.specs.declared.entry.Kind.TheVariants.{Driver, Iface}

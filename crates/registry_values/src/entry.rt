@@ -44,6 +44,9 @@ pub enum Change {
     Attach(Entry),
     /// The entry with this number was unlinked.
     Detach(u64),
+    /// The entry with this number was unlinked, and by the same step this entry was linked in its place. The second number is the rank of
+    /// both: the number of the first entry that stood in this place of the list.
+    Replace(u64, u64, Entry),
 }
 
 /// Whether the kind is that of an interface.

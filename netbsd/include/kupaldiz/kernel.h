@@ -3,10 +3,11 @@
  *
  * What differs from the pages:
  * - An assertion is always compiled in.
- * - KTHREAD_MPSAFE changes nothing: there is no kernel lock. KTHREAD_IDLE, KTHREAD_INTR, KTHREAD_TS and the priority change nothing either.
+ * - KTHREAD_MPSAFE changes nothing: no thread begins with the kernel lock. KTHREAD_IDLE, KTHREAD_INTR, KTHREAD_TS and the priority change nothing either.
  * - The calls of copy(9) copy within the one memory that there is. They fail with EFAULT where the user's address is NULL or below 4096.
  * - Nobody loads a module: the program calls its command, kupaldiz_NAME_modcmd.
- * - A tick lasts 10 milliseconds: hz is 100.
+ * - A tick lasts 10 milliseconds: hz is 100. A test may change it, by kupaldiz_set_hz.
+ * - The kernel lock is like an adaptive mutex that nests: KERNEL_LOCK stops where mutex_enter does. Flags such as SOFTINT_MPSAFE don't take it.
  */
 #ifndef KUPALDIZ_NETBSD_KERNEL_H
 #define KUPALDIZ_NETBSD_KERNEL_H
@@ -36,8 +37,13 @@ void kupaldiz_failed_with(const char *place, const char *text, const char *forma
 void kupaldiz_assert_sleepable(void);
 #define ASSERT_SLEEPABLE()	(kupaldiz_at(KUPALDIZ_HERE), kupaldiz_assert_sleepable())
 
-/* How many ticks a second has: 100. */
-static const int hz = 100;
+/* kupaldiz_hz, hz - how many ticks a second has: 100, unless a test has said otherwise. */
+int kupaldiz_hz(void);
+#define hz	kupaldiz_hz()
+
+/* kupaldiz_set_hz - let a second have so many ticks, so that waits and callouts of a test take less time. It is for the begin of a program, before another call
+ * that counts ticks. Stops where the number isn't from 1 to 1,000,000. */
+void kupaldiz_set_hz(int number);
 
 /* Whether the kernel still starts: never. */
 static const int cold = 0;
@@ -56,6 +62,63 @@ void delay(unsigned microseconds);
 /* kpause - sleep for so many ticks, without the lock meanwhile, which may be NULL. Returns EWOULDBLOCK. In the explorer a signal may end it if it is
  * interruptible, and it returns EINTR. Stops where the thread mustn't sleep. */
 int kpause(const char *name, bool interruptible, int ticks, kmutex_t *mutex);
+
+/* PCATCH, PNORELOCK - of a priority: a signal may end the sleep, as in the explorer; the lock isn't taken again. */
+#define PCATCH		0x100
+#define PNORELOCK	0x200
+
+/* tsleep, mtsleep - sleep until a wakeup with the same address, for so many ticks at most, 0 for ever; the second without the lock meanwhile. Return 0 where
+ * it came, EWOULDBLOCK after the time, and in the explorer EINTR. Stop where the thread mustn't sleep. */
+int tsleep(const void *ident, pri_t priority, const char *name, int ticks);
+int mtsleep(const void *ident, pri_t priority, const char *name, int ticks, kmutex_t *mutex);
+
+/* wakeup - wake all that sleep with that address. */
+void wakeup(const void *ident);
+
+/* ---- The kernel lock. It nests, and a call that sleeps gives it up meanwhile. ---- */
+
+/* kupaldiz_kernel_lock, KERNEL_LOCK - take it so many times more. Stops where mutex_enter does. */
+void kupaldiz_kernel_lock(int count);
+#define KERNEL_LOCK(count, lwp)	((void)(lwp), kupaldiz_kernel_lock(count))
+
+/* kupaldiz_kernel_unlock, KERNEL_UNLOCK_ONE, KERNEL_UNLOCK_LAST, KERNEL_UNLOCK_ALL - give it back once; once, for the last time; or as often as the thread has it,
+ * which is written to `count`. Stop where the thread has it less often, or the last of all isn't the last. */
+void kupaldiz_kernel_unlock(int count, int *held);
+#define KERNEL_UNLOCK_ONE(lwp)	((void)(lwp), kupaldiz_kernel_unlock(1, NULL))
+#define KERNEL_UNLOCK_LAST(lwp)	((void)(lwp), kupaldiz_kernel_unlock(-1, NULL))
+#define KERNEL_UNLOCK_ALL(lwp, count)	((void)(lwp), kupaldiz_kernel_unlock(0, count))
+
+/* kupaldiz_kernel_locked, KERNEL_LOCKED_P - whether this thread has it. */
+bool kupaldiz_kernel_locked(void);
+#define KERNEL_LOCKED_P()	kupaldiz_kernel_locked()
+
+#ifdef NET_MPSAFE
+#define KUPALDIZ_UNLESS_NET_MPSAFE(call)	((void)0)
+#else
+#define KUPALDIZ_UNLESS_NET_MPSAFE(call)	call
+#endif
+
+/* KERNEL_LOCK_UNLESS_NET_MPSAFE, KERNEL_UNLOCK_UNLESS_NET_MPSAFE - take it once, give it back once; nothing in a file that is compiled with NET_MPSAFE. */
+#define KERNEL_LOCK_UNLESS_NET_MPSAFE()		KUPALDIZ_UNLESS_NET_MPSAFE(KERNEL_LOCK(1, NULL))
+#define KERNEL_UNLOCK_UNLESS_NET_MPSAFE()	KUPALDIZ_UNLESS_NET_MPSAFE(KERNEL_UNLOCK_ONE(NULL))
+
+/* kupaldiz_softnet, softnet_lock - the lock of the network's code. */
+kmutex_t *kupaldiz_softnet(void);
+#define softnet_lock	kupaldiz_softnet()
+
+/* ---- once(9) ---- */
+
+typedef struct {
+	int o_status, o_error;
+} once_t;
+
+/* ONCE_DECL - what RUN_ONCE looks at, static or in zeroed memory. */
+#define ONCE_DECL(once)	once_t once
+
+/* kupaldiz_run_once, RUN_ONCE - call the function if nobody has; else wait until it has returned. Returns what it has returned, to all. Stops where the thread
+ * mustn't sleep. */
+int kupaldiz_run_once(once_t *once, int (*body)(void));
+#define RUN_ONCE(once, body)	kupaldiz_run_once(once, body)
 
 /* ---- kthread(9) ---- */
 

@@ -1,18 +1,15 @@
 /*
- * localcount.h - the calls of localcount(9), for threads of user space, over registry.h
+ * localcount.h - the calls of localcount(9), for threads of user space
  *
  * A local count has a part on each CPU. Acquiring and releasing change this CPU's part, and a reference may be released on another CPU than it was
  * acquired on. Its holder may sleep, and may give it to another thread. To drain a count, unlink the object and call pserialize_perform, so that no
  * new reference is acquired. Then localcount_drain waits for those that are held.
  *
  * What differs from the page:
- * - A release doesn't say which reference it ends, so those that are held are in one list of the count, under its lock. Each acquire and release takes
- *   this lock: a word that all CPUs write, which the kernel avoids.
- * - A drain waits for read sections, too. So a driver that forgets pserialize_perform may run well on real threads here and fail in the kernel.
- *   The explorer, kupaldiz_bench(7), finds the reader that then acquires too late.
- * - A drain looks again each millisecond, or when the last release wakes it; no CPU runs anything for it.
- * - Each CPU's part may differ from 0 by 2^40. It gets there with no reference held, if each one is acquired on that CPU and released on another.
- *   Acquires on that CPU then count on the writers' CPU, under the layer's lock, up to 2^40 more.
+ * - Each acquire and release also changes one word of the count, which all CPUs write. So a release of a reference that nobody holds is told, as in a kernel
+ *   that is built with DEBUG.
+ * - A drain has each CPU once, in place of a cross-call, and so it waits for read sections. So a driver that forgets pserialize_perform may run well on real
+ *   threads here. The explorer, kupaldiz_explorer(7), finds the reader that then acquires too late.
  *
  * A call stops if it sees what the page forbids, and a long wait prints what it waits for: Lines in kupaldiz_netbsd(7).
  */
@@ -26,11 +23,11 @@ __BEGIN_DECLS
 
 /* A local count. It lies in the object that it protects; only the calls look into it. */
 struct localcount {
-	uint64_t lc_serial;	/* 0 once drained */
-	uint64_t lc_row;
+	uint64_t lc_state;
+	void *lc_counts;
 };
 
-/* localcount_init - make a count live, with no reference. Stops where the thread mustn't sleep, and where the count is live already. */
+/* localcount_init - make a count live, with no reference. Stops where the thread mustn't sleep, where the count is live already, and where memory runs out. */
 void localcount_init(struct localcount *lc);
 
 /*
@@ -58,7 +55,7 @@ void localcount_drain(struct localcount *lc, kcondvar_t *cv, kmutex_t *interlock
  *
  * The caller is inside a read section in which it found the object, or keeps it by a lock or a reference. It never sleeps, and may be called in a soft
  * interrupt, with a spin lock, at a raised level and with preemption disabled.
- * Stops where the count isn't live or is being drained, and where memory runs out.
+ * Stops where the count isn't live or is being drained.
  */
 void localcount_acquire(struct localcount *lc);
 

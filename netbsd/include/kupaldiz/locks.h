@@ -90,7 +90,7 @@ void cv_destroy(kcondvar_t *cv);
  */
 void cv_wait(kcondvar_t *cv, kmutex_t *mutex);
 
-/* cv_wait_sig - cv_wait. It returns 0, since there are no signals; in the explorer, kupaldiz_bench(7), one may end the wait, and it returns EINTR. */
+/* cv_wait_sig - cv_wait. It returns 0, since there are no signals; in the explorer, kupaldiz_explorer(7), one may end the wait, and it returns EINTR. */
 int cv_wait_sig(kcondvar_t *cv, kmutex_t *mutex);
 
 /* cv_timedwait - cv_wait for at most so many ticks of 1/hz second, 0 for ever. Returns 0 where it was woken, EWOULDBLOCK after the time. Below 0 the time is

@@ -1,18 +1,18 @@
 /*
- * pserialize.h - the calls of pserialize(9), for threads of user space, over registry.h
+ * pserialize.h - the calls of pserialize(9), for threads of user space
  *
- * A reader walks a list in a read section. It takes none of the writers' locks, and doesn't wait for pserialize_perform. A writer unlinks an entry,
+ * A reader walks a list in a read section. It takes none of the writers' locks. A writer unlinks an entry,
  * calls pserialize_perform, and then no reader has the entry. Writers exclude each other by a lock of their own.
  *
  * What differs from the page:
  * - A section keeps the thread on its CPU, and the other threads of that CPU out of theirs. So a reader waits if no CPU is free.
  * - A section raises no level: soft interrupts run inside it too (kupaldiz_softint(3) says when). In the kernel it keeps them off.
  * - A call of this layer that sleeps stops inside a section. A call of the C library that blocks there isn't seen.
- * - pserialize_perform looks at the section word of each CPU until the CPU is in no section, or the word has changed since the first look. So sections
- *   that begin later can't hold it up. Between looks it pauses, ever longer, up to a millisecond; no CPU runs anything for it.
+ * - pserialize_perform has each CPU once: it waits while a thread that is inside a section, or has the CPU otherwise, keeps it. Sections that begin later
+ *   can't hold it up for long: the third that comes before it has to wait. No CPU runs anything for it.
  * - The links of the list are the caller's: a writer stores them with atomic_store_release, and a reader loads them with atomic_load_consume or
- *   atomic_load_acquire, as in the kernel. No other barrier is needed: each outermost enter ends with a full fence, and pserialize_perform begins with
- *   one.
+ *   atomic_load_acquire, as in the kernel. No other barrier is needed: a section that begins once pserialize_perform has had its CPU sees what was stored
+ *   before.
  *
  * A call stops if it sees what the page forbids, and a long wait prints what it waits for: Lines in kupaldiz_netbsd(7).
  */

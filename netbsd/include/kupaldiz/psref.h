@@ -1,5 +1,5 @@
 /*
- * psref.h - the calls of psref(9), for threads of user space, over registry.h
+ * psref.h - the calls of psref(9), for threads of user space
  *
  * A passive reference keeps its target beyond the read section that found it, and its holder may sleep. The thread that acquired it releases it, and is
  * bound to its CPU until then. To destroy a target, unlink it and call pserialize_perform, so that no new reference is acquired. Then
@@ -8,13 +8,11 @@
  * What differs from the page:
  * - A class's level changes nothing: a thread has its CPU during a call with a reference, so no soft interrupt of that CPU runs within the call.
  *   It may run at its end, and between two calls (kupaldiz_softint(3)).
- * - psref_acquire searches a list of at most 32 entries (a registry of the layer's) for its target. It notes the reference in a table
- *   of its CPU, where psref_release and psref_copy look it up. In the kernel a reference lies in a list of its CPU, and nothing is looked up.
- * - psref_target_destroy looks at the words of all CPUs, as pserialize_perform does; no CPU runs anything for it.
- * - psref_target_destroy waits for read sections, too: the ones that are open at the call, and the ones that are open as the last reference is released.
- *   So a driver that forgets pserialize_perform may run well on real threads here and fail in the kernel. The explorer, kupaldiz_bench(7), finds
- *   the reader that then acquires too late.
- * - Each CPU has at most 2^40 references to a target at a time.
+ * - A reference is noted in a table of its CPU, where psref_release and psref_copy look it up. In the kernel it lies in a list of its CPU, and nothing is
+ *   looked up.
+ * - psref_target_destroy has each CPU once, in place of a cross-call. A read section has its CPU, so it waits for the sections that are open at the call, and
+ *   for the one in which a CPU's last reference was released: as a kernel's cross-call does, which such a section keeps off. So a driver that forgets
+ *   pserialize_perform may run well on real threads. The explorer, kupaldiz_explorer(7), finds the reader that then acquires too late.
  *
  * A call stops if it sees what the page forbids, and a long wait prints what it waits for: Lines in kupaldiz_netbsd(7).
  */
@@ -31,8 +29,7 @@ struct psref_class;
 /* What references are to. It lies in the object that it protects; only the calls look into it. */
 struct psref_target {
 	struct psref_class *prt_class;	/* NULL once destroyed */
-	uint64_t prt_serial;
-	uint64_t prt_row;
+	uint64_t prt_state;
 };
 
 /* A passive reference, in the storage of its holder. Only the calls look into it; it isn't copied except by psref_copy. */

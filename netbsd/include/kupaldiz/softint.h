@@ -123,7 +123,7 @@ void callout_setfunc(callout_t *callout, void (*body)(void *), void *arg);
  * how late. It runs on the thread of this CPU's soft interrupts, at IPL_SOFTCLOCK, when such a handler can. Callouts that are due on one CPU run in
  * the order of their times, and those of one time in the order in which they were set. This CPU is the one that curcpu returns: for a thread that isn't
  * bound, the CPU that it had last, or the next one in turn if it never had any. A body that still runs on another CPU doesn't keep it from running
- * here. In the explorer the clock is virtual (kupaldiz_bench(7)).
+ * here. In the explorer the clock is virtual (kupaldiz_explorer(7)).
  */
 void callout_reset(callout_t *callout, int ticks, void (*body)(void *), void *arg);
 

@@ -14,7 +14,6 @@
 #include <string.h>
 
 #include "names.h"
-#include "registry_limits.h"
 
 __BEGIN_DECLS
 
@@ -23,16 +22,16 @@ __BEGIN_DECLS
 #define KUPALDIZ_CPUS	7
 #endif
 
-/* A symbol with the limits of the build and its CPUs in its name. Each file that has this header refers to it: for others it neither links nor starts. The
- * explorer's has another name: a file without -DKUPALDIZ_BENCH doesn't link with it. */
-#if defined(KUPALDIZ_BENCH) || defined(KUPALDIZ_IN_BENCH)
-#define KUPALDIZ_NAMED_BY(limits, cpus)	kupaldiz_##limits##_on_bench_##cpus
+/* A symbol with the number of CPUs in its name. Each file that has this header refers to it: for others it neither links nor starts. The explorer's has another
+ * name: a file without -DKUPALDIZ_EXPLORER doesn't link with it. */
+#if defined(KUPALDIZ_EXPLORER) || defined(KUPALDIZ_IN_EXPLORER)
+#define KUPALDIZ_NAMED_BY(cpus)	kupaldiz_for_##cpus##_cpus_of_explorer
 #else
-#define KUPALDIZ_NAMED_BY(limits, cpus)	kupaldiz_##limits##_on_##cpus
+#define KUPALDIZ_NAMED_BY(cpus)	kupaldiz_for_##cpus##_cpus
 #endif
-#define KUPALDIZ_NAMED(limits, cpus)	KUPALDIZ_NAMED_BY(limits, cpus)
-extern const char KUPALDIZ_NAMED(REGISTRY_BUILT_FOR, KUPALDIZ_CPUS);
-static const char *const kupaldiz_built_for __attribute__((used)) = &KUPALDIZ_NAMED(REGISTRY_BUILT_FOR, KUPALDIZ_CPUS);
+#define KUPALDIZ_BUILT_FOR(cpus)	KUPALDIZ_NAMED_BY(cpus)
+extern const char KUPALDIZ_BUILT_FOR(KUPALDIZ_CPUS);
+static const char *const kupaldiz_built_for __attribute__((used)) = &KUPALDIZ_BUILT_FOR(KUPALDIZ_CPUS);
 
 #define KUPALDIZ_TEXT_OF(line)	#line
 #define KUPALDIZ_TEXT(line)	KUPALDIZ_TEXT_OF(line)
@@ -51,8 +50,8 @@ enum {
 };
 
 /* KUPALDIZ_POINT, KUPALDIZ_BARRIER - before an atomic access or a barrier of the code's own. The address is evaluated once more for the access. Nothing here;
- * kupaldiz_bench(7), which tries schedules, has a call there. KUPALDIZ_FROM gives it the place of a macro whose accesses lie in a header. */
-#ifdef KUPALDIZ_BENCH
+ * kupaldiz_explorer(7), which tries schedules, has a call there. KUPALDIZ_FROM gives it the place of a macro whose accesses lie in a header. */
+#ifdef KUPALDIZ_EXPLORER
 void kupaldiz_point(const volatile void *address, size_t size, unsigned how, const char *place);
 #define KUPALDIZ_POINT(address, how)	kupaldiz_point(address, sizeof(*(address)), how, KUPALDIZ_HERE)
 #define KUPALDIZ_BARRIER(how)		kupaldiz_point(NULL, 0, how, KUPALDIZ_HERE)

@@ -2,7 +2,7 @@
  * workqueue.h - workqueue(9): functions that threads of the layer run, one after another
  *
  * What differs from the page: priorities and WQ_FPU change nothing, and without WQ_MPSAFE nothing has the kernel lock. The level is that of the queue's own
- * lock, so it says who may enqueue. In the explorer, kupaldiz_bench(7), the threads of a queue are the layer's own: a run may end while they wait.
+ * lock, so it says who may enqueue. In the explorer, kupaldiz_explorer(7), the threads of a queue are the layer's own: a run may end while they wait.
  */
 #ifndef KUPALDIZ_NETBSD_WORKQUEUE_H
 #define KUPALDIZ_NETBSD_WORKQUEUE_H

@@ -24,7 +24,7 @@
 #define rounddown2(number, power)	((number) & ~((power) - 1))
 
 /* mstohz, hztoms - ticks in milliseconds, at least so many, and milliseconds in ticks. */
-#define mstohz(milliseconds)	((int)(((milliseconds) + 9) / 10))
-#define hztoms(ticks)		((unsigned)(ticks) * 10)
+#define mstohz(milliseconds)	((int)(((int64_t)(milliseconds) * hz + 999) / 1000))
+#define hztoms(ticks)		((unsigned)((int64_t)(ticks) * 1000 / hz))
 
 #endif

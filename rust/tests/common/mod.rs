@@ -3,8 +3,13 @@
 
 pub mod watched;
 
-use kupaldiz::{Cpu, DestroyError, Freed, Holder, Kind, LocalRef, Name, PassiveRef, Refusal, Refused, Registry, Retired, Settings};
+use kupaldiz::{
+    Cpu, DestroyError, Found, Freed, Holder, Kind, LocalRef, Name, PassiveRef, Patience, Refused,
+    Registry, RegistryError, Retired, Settings,
+};
+use std::cell::RefCell;
 use std::future::Future;
+use std::mem;
 use std::pin::Pin;
 use std::process;
 use std::sync::atomic::{AtomicUsize, Ordering};
@@ -14,11 +19,24 @@ use std::thread::{self, Thread};
 use std::time::{Duration, Instant};
 
 pub fn name(text: &str) -> Name {
-    Name::parse(text).unwrap()
+    text.parse().unwrap()
+}
+
+/// A registry, and all its CPUs.
+pub fn opened<T>(settings: Settings) -> (Registry<T>, Vec<Cpu<T>>) {
+    let registry = Registry::open(settings).unwrap();
+    let cpus = registry.cpus();
+    (registry, cpus)
+}
+
+pub fn opened_tracked<T>(settings: Settings) -> (Registry<T>, Vec<Cpu<T>>) {
+    let registry = Registry::open_tracked(settings).unwrap();
+    let cpus = registry.cpus();
+    (registry, cpus)
 }
 
 /// Why a call was refused, of any error.
-pub fn why(error: impl Into<Refusal>) -> Refusal {
+pub fn why(error: impl Into<RegistryError>) -> RegistryError {
     error.into()
 }
 
@@ -30,9 +48,10 @@ pub fn patience() -> kupaldiz::Patience {
     kupaldiz::Patience::at_most(LONG)
 }
 
-/// So many steps, or REGISTRY_CHANGES of each hundred: few where a tool watches each access.
+/// So many steps, or KUPALDIZ_CHANGES of each hundred: few where a tool watches each access.
 pub fn scaled(steps: usize) -> usize {
-    std::env::var("REGISTRY_CHANGES").map_or(steps, |percent| steps * percent.parse::<usize>().unwrap() / 100)
+    std::env::var("KUPALDIZ_CHANGES")
+        .map_or(steps, |percent| steps * percent.parse::<usize>().unwrap() / 100)
 }
 
 /// Numbers from a seed.
@@ -58,17 +77,17 @@ impl Dice {
 }
 
 pub fn local<T>(cpu: &Cpu<T>, text: &str) -> LocalRef<T> {
-    cpu.get_local(Kind::Driver, &name(text)).map_err(|refusal| panic!("{refusal}")).ok().unwrap()
+    cpu.get_local(text).map_err(|refusal| panic!("{refusal}")).ok().unwrap()
 }
 
 pub fn passive<'cpu, T>(cpu: &'cpu Cpu<T>, text: &str) -> PassiveRef<'cpu, T> {
-    cpu.get(Kind::Driver, &name(text)).map_err(|refusal| panic!("{refusal}")).ok().unwrap()
+    cpu.get(text).map_err(|refusal| panic!("{refusal}")).ok().unwrap()
 }
 
 /// A registry with two CPUs and the driver `wm`, which is number 1 in slot 0 and carries this.
 pub fn with_driver<T>(value: T) -> (Registry<T>, Vec<Cpu<T>>) {
-    let (registry, cpus) = Registry::open(Settings::new(2, 4)).unwrap();
-    assert_eq!(registry.attach(&cpus[0], &name("wm"), value).unwrap().number, 1);
+    let (registry, cpus) = opened(Settings::new(2, 4));
+    assert_eq!(cpus[0].attach("wm", value).unwrap().number, 1);
     (registry, cpus)
 }
 
@@ -76,14 +95,15 @@ pub fn with_driver<T>(value: T) -> (Registry<T>, Vec<Cpu<T>>) {
 pub struct Gone<T>(Option<Retired<T>>);
 
 /// Detaches the driver.
-pub fn detach<T>(registry: &Registry<T>, cpu: &Cpu<T>, text: &str) -> Gone<T> {
-    Gone(Some(registry.detach(cpu, Kind::Driver, &name(text)).unwrap()))
+pub fn detach<T>(cpu: &Cpu<T>, text: &str) -> Gone<T> {
+    Gone(Some(cpu.detach(text).unwrap()))
 }
 
 impl<T> Gone<T> {
     /// What holds it, as one turn meets it; none where the turn freed it.
     pub fn holder(&mut self) -> Option<Holder> {
-        let Refused { refusal, given } = self.0.take().expect("it isn't freed").advance().err()?;
+        let Refused { refusal, given } =
+            self.0.take().expect("it isn't freed").try_destroy().err()?;
         self.0 = Some(given);
         match refusal {
             DestroyError::StillHeld(holder) => Some(holder),
@@ -93,7 +113,7 @@ impl<T> Gone<T> {
 
     /// What one turn frees.
     pub fn freed(self) -> Freed<T> {
-        self.0.expect("it isn't freed").advance().unwrap_or_else(|held| panic!("{held}"))
+        self.0.expect("it isn't freed").try_destroy().unwrap_or_else(|held| panic!("{held}"))
     }
 }
 
@@ -104,12 +124,22 @@ pub struct Drops {
     dropped: Arc<AtomicUsize>,
 }
 
-/// A value in a block of its own, which is spoilt as it is dropped. No atomic is in it: the thread sanitizer looks at each load and store.
+/// A value in a block of its own, which is spoilt as it is dropped. No atomic is in it: the thread
+/// sanitizer looks at each load and store.
 #[derive(Debug)]
 pub struct Tracked {
     words: Vec<u64>,
     dropped: Arc<AtomicUsize>,
     pub label: u64,
+}
+
+thread_local! {
+    static DROPPED: RefCell<Vec<u64>> = const { RefCell::new(Vec::new()) };
+}
+
+/// The labels of the values that this thread has dropped since it asked last, in their order.
+pub fn dropped_here() -> Vec<u64> {
+    DROPPED.with(|dropped| mem::take(&mut *dropped.borrow_mut()))
 }
 
 impl Drops {
@@ -140,6 +170,7 @@ impl Drop for Tracked {
         self.words.iter_mut().for_each(|word| *word = !self.label);
         assert_eq!(self.words[7], !self.label);
         self.dropped.fetch_add(1, Ordering::Relaxed);
+        let _ = DROPPED.try_with(|dropped| dropped.borrow_mut().push(self.label));
     }
 }
 
@@ -188,4 +219,45 @@ impl Task {
             }
         }
     }
+}
+
+/// A waker that does this.
+pub fn waker(deed: impl Fn() + Send + Sync + 'static) -> Waker {
+    struct Does<F>(F);
+    impl<F: Fn() + Send + Sync> Wake for Does<F> {
+        fn wake(self: Arc<Self>) {
+            (self.0)();
+        }
+    }
+    Arc::new(Does(deed)).into()
+}
+
+pub fn poll<F: Future + Unpin>(future: &mut F, waker: &Waker) -> Poll<F::Output> {
+    Pin::new(future).poll(&mut Context::from_waker(waker))
+}
+
+/// Makes every call of a registry on a CPU that is outside. All that it attaches goes again.
+pub fn every_call<T>(registry: &Registry<T>, cpu: &Cpu<T>, value: impl Fn() -> T) {
+    cpu.attach("inner", value()).map_err(why).unwrap();
+    cpu.attach_iface("inner", "inner0", value()).map_err(why).unwrap();
+    let section = cpu.enter().unwrap();
+    let found = section
+        .find("inner")
+        .map(|found| (Found::acquire(&found).is_ok(), Found::acquire_local(&found).is_ok()));
+    assert!(
+        found == Some((true, true)) && section.entries().len() > 1 && cpu.read("inner").is_ok()
+    );
+    section.exit();
+    assert!(cpu.get("inner").is_ok() && cpu.look_up((Kind::Iface, "inner0")).is_ok());
+    assert!(cpu.get_local("inner").map(|local| drop(local.clone())).is_ok());
+    let chosen = registry.get("inner").map(drop);
+    assert!(chosen.is_ok() || chosen == Err(kupaldiz::LookUpError::NoCpu));
+    assert_eq!(registry.audit([cpu]).map(drop), Err(kupaldiz::CpusError::MissingCpu));
+    let _ = cpu.synchronize(Patience::Turns(1));
+    let (_, old) = cpu.replace("inner", value()).map_err(why).unwrap();
+    assert!(registry.clone().close(Patience::Turns(1)).is_err());
+    let held = old.destroy_on(cpu, Patience::Turns(1)).map(drop).unwrap_err();
+    let iface = cpu.detach((Kind::Iface, "inner0")).unwrap();
+    drop((iface.destroy(Patience::Turns(1)).map(drop), held.given.try_destroy().map(drop)));
+    drop((cpu.retire("inner").unwrap(), registry.free_deferred()));
 }

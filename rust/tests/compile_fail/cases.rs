@@ -1,14 +1,14 @@
 //! What the types of the crate rule out. The compiler takes this file as it is. `--cfg` and the name in a line add what follows that line. The compiler then
 //! reports errors. Each of them begins as the end of the line says.
 
-use kupaldiz::{Cpu, CpuPool, Found, Holder, Kind, LocalRef, Mapped, Name, PassiveRc, PassiveRef, Patience, ReadGuard, Refusal, Registry};
+use kupaldiz::{Cpu, CpuPool, Found, Holder, LocalRef, Mapped, Name, PassiveRc, PassiveRef, Patience, ReadGuard, RegistryError, Registry};
 use kupaldiz::{Retired, Settings};
 use std::rc::Rc;
 
 /// What is found, listed or carried isn't used past its section, nor the section past its CPU; and a section is exited once.
 pub fn section(mut cpu: Cpu<String>, wm: &Name) -> Option<usize> {
     let section = cpu.enter().ok()?;
-    let (found, listed) = (section.find(Kind::Driver, wm)?, section.entries().next()?);
+    let (found, listed) = (section.find(wm)?, section.entries().next()?);
     let value: &String = &found;
     #[cfg(found_past_its_section)] // E0505
     return Some((section.exit(), found.len()).1);
@@ -17,7 +17,7 @@ pub fn section(mut cpu: Cpu<String>, wm: &Name) -> Option<usize> {
     #[cfg(value_past_its_section)] // E0505
     return Some((section.exit(), value.len()).1);
     #[cfg(value_of_a_found_past_its_section)] // E0505
-    return Some((Found::value(&section.find(Kind::Driver, wm)?), section.exit()).0.len());
+    return Some((Found::value(&section.find(wm)?), section.exit()).0.len());
     #[cfg(section_past_its_cpu)] // E0505
     return Some((drop(cpu), drop(section), 0).2);
     #[cfg(leave_under_a_section)] // E0502
@@ -32,7 +32,7 @@ pub fn section(mut cpu: Cpu<String>, wm: &Name) -> Option<usize> {
 
 /// A guard that reads an entry, and a part of that, are in use no longer than their CPU. Nobody writes what others read.
 pub fn read(mut cpu: Cpu<String>, wm: &Name) -> Option<usize> {
-    let mut guard = cpu.read(Kind::Driver, wm).ok()?;
+    let mut guard = cpu.read(wm).ok()?;
     let other = String::from("other");
     #[cfg(read_past_its_cpu)] // E0505
     return Some((drop(cpu), guard.len()).1);
@@ -60,7 +60,7 @@ pub fn part(guard: ReadGuard<'_, String>) -> Mapped<ReadGuard<'_, String>, str> 
 
 /// A passive reference is released once, and before its CPU goes.
 pub fn passive(cpu: Cpu<String>, wm: &Name) -> Option<usize> {
-    let reference = cpu.get(Kind::Driver, wm).ok()?;
+    let reference = cpu.get(wm).ok()?;
     #[cfg(passive_past_its_cpu)] // E0505
     return Some((drop(cpu), reference.len()).1);
     #[cfg(passive_used_past_its_release)] // E0505
@@ -75,7 +75,7 @@ pub fn local(mut reference: LocalRef<String>, cpu: &Cpu<String>, other: &Cpu<u64
     #[cfg(local_used_past_its_release)] // E0505
     return Some((reference.as_str(), LocalRef::release(reference, cpu)).0.len());
     #[cfg(release_a_local_twice)] // E0382
-    let _ = LocalRef::release(reference, cpu);
+    LocalRef::release(reference, cpu);
     #[cfg(release_at_another_type)] // E0308
     let cpu = other;
     #[cfg(value_written_by_a_reader)] // E0596
@@ -83,46 +83,45 @@ pub fn local(mut reference: LocalRef<String>, cpu: &Cpu<String>, other: &Cpu<u64
     #[cfg(value_moved_out_by_a_reader)] // E0507
     drop(*reference);
     let _ = (&mut reference, other.id());
-    LocalRef::release(reference, cpu).ok().map(|()| 0)
+    LocalRef::release(reference, cpu);
+    Some(0)
 }
 
 /// A lookup by one call holds nothing, so what the entry carries isn't in what it returns.
 pub fn look_up(cpu: &Cpu<u64>, wm: &Name) -> Option<u64> {
-    let entry = cpu.look_up(Kind::Driver, wm).ok()?;
+    let entry = cpu.look_up(wm).ok()?;
     #[cfg(value_of_a_look_up)] // E0614
     return Some(*entry);
     Some(entry.number)
 }
 
-/// What is attached is the registry's, and lives as long; and so is the reference to a driver.
-pub fn attach<'a>(registry: &Registry<&'a str>, cpu: &Cpu<&'a str>, name: &Name, driver: LocalRef<&'a str>, long: &'a str) {
+/// What is attached is the registry's, and lives as long.
+pub fn attach<'a>(registry: &Registry<&'a str>, name: &Name, long: &'a str) {
     let text = String::from("short");
     #[cfg(value_that_lives_too_short)] // E0597
     let long = text.as_str();
-    let _ = registry.attach_iface(cpu, name, driver, long);
-    #[cfg(driver_used_past_an_attach)] // E0382
-    drop(driver);
+    let _ = registry.attach(name, long);
     drop(text.len());
 }
 
 /// What was attached isn't used by whoever attached it.
-pub fn value(registry: &Registry<String>, cpu: &Cpu<String>, name: &Name, value: String) {
-    let _ = registry.attach(cpu, name, value);
+pub fn value(registry: &Registry<String>, name: &Name, value: String) {
+    let _ = registry.attach(name, value);
     #[cfg(value_used_past_an_attach)] // E0382
     drop(value);
 }
 
 /// A retired entry is destroyed once, by its token and by no number; and a detach that nothing follows is said.
 #[cfg_attr(detach_and_forget, deny(unused_must_use))]
-pub fn detach(registry: &Registry<u64>, cpu: &Cpu<u64>, wm: &Name) -> Result<(), Refusal> {
+pub fn detach(registry: &Registry<u64>, wm: &Name) -> Result<(), RegistryError> {
     #[cfg(detach_and_forget)] // unused `Retired` that must be used
-    registry.detach(cpu, Kind::Driver, wm)?;
-    let retired: Retired<u64> = registry.detach(cpu, Kind::Driver, wm)?;
+    registry.detach(wm)?;
+    let retired: Retired<u64> = registry.detach(wm)?;
     #[cfg(destroy_by_a_number)] // E0599: no method named `destroy` found
-    let _ = registry.destroy(cpu, retired.entry().number, Patience::Forever);
+    let _ = registry.destroy(retired.entry().number, Patience::Forever);
     #[cfg(destroy_twice)] // E0382
-    let _ = retired.destroy(cpu, Patience::Forever);
-    let _ = retired.destroy(cpu, Patience::Forever);
+    let _ = retired.destroy(Patience::Forever);
+    let _ = retired.destroy(Patience::Forever);
     Ok(())
 }
 

@@ -24,6 +24,9 @@ gives_name = lends the_row
 abbrev pub gives_settings : Share → Ptr → Option CSettings → Fml
 gives_settings = lends settings
 
+abbrev pub gives_entry : Share → Ptr → Option CEntry → Fml
+gives_entry = lends entry
+
 abbrev pub gives_bytes : Share → Ptr → Option (List ℕ) → Fml
 gives_bytes = lends_row u8
 

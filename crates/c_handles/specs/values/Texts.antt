@@ -1,27 +1,20 @@
--- What crosses to C by the registry's own values: entries, settings, the numbers of a wait, names from bytes, and what an answer says.
-use Rattle.std.specs.Prelude.{ℕ, ◌==◌, if◌then◌else◌, Option, Some, None, Result, Ok, Err, Bool, not, ◌≡◌, ◌≢◌, ◌⊎◌, suc, ◌-◌, ◌<◌, ◌≤◌, List, [], length, get_or}
-use Rattle.c_handles.specs.Types.{Entry, Kind, Iface, Driver, Name, NameFault, Empty, TooLong, BadByte, Refusal, Settings, Stage, Grace, Passive, Local, Freed}
-use Rattle.registry_values.specs.Common.{number_of_refusal, kind_word, name_of_bytes}
-use Rattle.registry_values.specs.Names.{id_of_name}
-use Rattle.c_handles.specs.declared.values.plain.TheConstants.{DONE, NAME_EMPTY, NAME_TOO_LONG, NAME_BAD_BYTE, BAD_NAME, NULL}
+-- What crosses to C by the registry's own values: entries, settings, names from bytes, and what an answer says.
+use Rattle.std.specs.Prelude.{ℕ, ◌==◌, if◌then◌else◌, Option, Some, None, Result, Ok, Err, ◌≡◌, ◌≢◌, ◌⊎◌, ◌-◌, ◌<◌, ◌≤◌, List, length, get_or, ◌%◌, ◌^◌, take}
+use Rattle.c_handles.specs.Types.{Entry, Kind, Iface, Driver, Name, Refusal, Settings, Stage, Grace, Passive, Local, Freed}
+use Rattle.registry_values.specs.Common.{number_of_refusal, kind_word, key_of_words, bytes_of}
+use Rattle.registry_values.specs.Names.{id_of_name, key_of_bytes}
+use Rattle.c_handles.specs.declared.values.plain.TheConstants.{DONE, NAME_TOO_LONG, BAD_NAME, NULL, NO_ROOM}
 use Rattle.c_handles.specs.declared.values.plain.CEntry.{CEntry}
 use Rattle.c_handles.specs.declared.values.plain.CName.{CName}
+use Rattle.c_handles.specs.declared.values.plain.CPassive.{CPassive}
 use Rattle.c_handles.specs.declared.values.plain.CSettings.{CSettings}
 use Rattle.c_handles.specs.declared.values.plain.CStage.{CStage}
-use Rattle.c_handles.specs.declared.values.wait.TheConstants.{BEGUN}
-use Rattle.c_handles.specs.declared.values.wait.CWait.{CWait}
-use Rattle.c_handles.specs.values.Places.{put}
+use Rattle.c_handles.specs.values.Places.{put, DoesBy}
 
 -- the number of an answer
 abbrev pub number_of : {X : Type 0} → Result X Refusal → ℕ
 number_of (Ok x) = DONE
 number_of (Err refusal) = number_of_refusal refusal
-
--- the number of a fault
-abbrev pub fault_of : NameFault → ℕ
-fault_of Empty = NAME_EMPTY
-fault_of TooLong = NAME_TOO_LONG
-fault_of (BadByte place) = NAME_BAD_BYTE
 
 -- the kind of a word
 abbrev pub kind_in : ℕ → Option Kind
@@ -44,50 +37,43 @@ settings_out z = record { cpus = z.cpus; slots = z.slots; change_limit = z.chang
 abbrev pub entry_out : Entry → CEntry
 entry_out e = record { number = e.number; slot = e.slot; kind = kind_word e.rec.kind; name = name_out e.rec.name; value = e.rec.value }
 
+-- C's number for the kind of an entry that C gives: the low half of its word
+abbrev pub kind_given : CEntry → ℕ
+kind_given e = e.kind % 2 ^ 32
+
+-- that entry again, with nothing in the high half
+abbrev pub entry_again : CEntry → CEntry
+entry_again e = record e { kind = kind_given e }
+
+abbrev pub passive_again : CPassive → CPassive
+passive_again p = record p { entry = entry_again p.entry }
+
+-- the entry that C's {0} is: none, as its number is 0
+abbrev pub no_entry : CEntry
+no_entry = record { number = 0; slot = 0; kind = 0; name = record { high = 0; low = 0 }; value = 0 }
+
+-- the reference that C's {0} is
+abbrev pub no_passive : CPassive
+no_passive = record { entry = no_entry; cpu = 0 }
+
 abbrev pub stage_out : Stage → CStage
 stage_out (Grace cpu) = record { stage = 0; what = cpu }
 stage_out (Passive cpu) = record { stage = 1; what = cpu }
 stage_out (Local held) = record { stage = 2; what = held }
 stage_out (Freed slot) = record { stage = 3; what = slot }
 
--- The numbers in which a wait keeps entries and CPUs, and the one that says that it was begun.
+-- Names from bytes, and from ids.
 
--- an entry's number, or 0 for none
-abbrev pub number_or_none : Option ℕ → ℕ
-number_or_none None = 0
-number_or_none (Some n) = n
+-- What is answered and written of bytes: the name that they are, if there is one.
+pub record NamesRow (bytes : List ℕ) (n : ℕ) (old new : Option CName) : Type 0 where
+  pub long : 16 < length bytes → (n ≡ NAME_TOO_LONG) × (new ≡ old)
+  pub bad : length bytes ≤ 16 → key_of_bytes bytes ≡ None → (n ≡ BAD_NAME) × (new ≡ old)
+  pub good : (m : Name) → key_of_bytes bytes ≡ Some m → (n ≡ DONE) × (new ≡ put old (name_out m))
 
-abbrev pub none_or_number : ℕ → Option ℕ
-none_or_number n = if n == 0 then None else Some n
-
-abbrev pub flag_of : Bool → ℕ
-flag_of seen = if seen then 1 else 0
-
-abbrev pub is_set : ℕ → Bool
-is_set n = not (n == 0)
-
-abbrev pub is_begun : CWait → Bool
-is_begun wait = wait.begun == BEGUN
-
--- Names from bytes, and what an answer says.
-
--- what is answered and written of a name, or of the first fault
-abbrev pub WritesName : Result Name NameFault → ℕ → Option CName → Option CName → Option ℕ → Option ℕ → Type 0
-WritesName (Ok m) n old new place place' = (n ≡ DONE) × (new ≡ put old (name_out m)) × (place' ≡ place)
-WritesName (Err Empty) n old new place place' = (n ≡ NAME_EMPTY) × (new ≡ old) × (place' ≡ place)
-WritesName (Err TooLong) n old new place place' = (n ≡ NAME_TOO_LONG) × (new ≡ old) × (place' ≡ place)
-WritesName (Err (BadByte at)) n old new place place' = (n ≡ NAME_BAD_BYTE) × (new ≡ old) × (place' ≡ put place at)
-
--- the result of a parse: the name that the bytes are, or the first fault
-pub record Parses (bytes : List ℕ) (n : ℕ) (old new : Option CName) (place place' : Option ℕ) : Type 0 where
-  pub r : Result Name NameFault
-  pub is : r ≡ name_of_bytes bytes
-  pub writes : WritesName r n old new place place'
-
--- of bytes that were given: at null there are none, and it is refused where there should be some
-abbrev pub ParsesGiven : ℕ → Option (List ℕ) → ℕ → Option CName → Option CName → Option ℕ → Option ℕ → Type 0
-ParsesGiven length None n old new place place' = (length ≢ 0 → (n ≡ NULL) × (new ≡ old) × (place' ≡ place)) × (length ≡ 0 → Parses [] n old new place place')
-ParsesGiven length (Some bytes) n old new place place' = Parses bytes n old new place place'
+-- of bytes that were given, at a place
+pub record NamesBytes (given : Option (List ℕ)) (n : ℕ) (old new : Option CName) : Type 0 where
+  pub null : (given ≡ None) ⊎ (old ≡ None) → (n ≡ NULL) × (new ≡ old)
+  pub there : (bytes : List ℕ) (was : CName) → given ≡ Some bytes → old ≡ Some was → NamesRow bytes n old new
 
 -- what is answered and written of the id that a name has
 abbrev pub WritesId : Option ℕ → ℕ → Option ℕ → Option ℕ → Type 0
@@ -99,26 +85,32 @@ abbrev pub TellsId : Option CName → ℕ → Option ℕ → Option ℕ → Type
 TellsId None n id id' = (n ≡ NULL) × (id' ≡ id)
 TellsId (Some name) n id id' = WritesId (id_of_name (name_in name)) n id id'
 
--- some call returns it
-abbrev pub IsAnswer : ℕ → Type 0
-IsAnswer n = ((n ≤ 19) × (n ≢ 11)) ⊎ ((64 ≤ n) × (n ≤ 77) × (n ≢ 67))
+-- The bytes of a name, as a text.
 
--- A text and a zero are written, cut to the room; with no room nothing is.
+-- a text is written, and a zero after it
 pub record IsWritten (t old new : List ℕ) : Type 0 where
-  pub text : (k : ℕ) → k < length t → suc k < length old → get_or new k 0 ≡ get_or t k 0
-  pub whole : length t < length old → get_or new (length t) 0 ≡ 0
-  pub cut : length old ≤ length t → 0 < length old → get_or new (length old - 1) 0 ≡ 0
+  pub text : (k : ℕ) → k < length t → get_or new k 0 ≡ get_or t k 0
+  pub zero : get_or new (length t) 0 ≡ 0
   pub rest : (k : ℕ) → length t < k → get_or new k 0 ≡ get_or old k 0
 
--- the text of a result has so many bytes: none if no call returns it
-pub record Tells (answer n : ℕ) (old new : List ℕ) : Type 0 where
-  pub t : List ℕ
-  pub size : n ≡ length t
-  pub known : IsAnswer answer → 0 < n
-  pub unknown : 0 < n → IsAnswer answer
-  pub written : IsWritten t old new
+-- nothing, if there is no room for all of it
+pub record WritesText (t : List ℕ) (n : ℕ) (old new : List ℕ) : Type 0 where
+  pub short : length old ≤ length t → (n ≡ NO_ROOM) × (new ≡ old)
+  pub enough : length t < length old → (n ≡ DONE) × IsWritten t old new
 
--- at a place: at null nothing is written, for any room
-abbrev pub TellsBy : ℕ → ℕ → Option (List ℕ) → Option (List ℕ) → Type 0
-TellsBy answer n None after = (after ≡ None) × Tells answer n [] []
-TellsBy answer n (Some old) after = (new : List ℕ) × (after ≡ Some new) × Tells answer n old new
+-- so many bytes lead up to the last one that isn't 0
+pub record IsTextLength (bytes : List ℕ) (n : ℕ) : Type 0 where
+  pub few : n ≤ 16
+  pub zeros : (k : ℕ) → n ≤ k → get_or bytes k 0 ≡ 0
+  pub last : 0 < n → get_or bytes (n - 1) 0 ≢ 0
+
+-- two words as the text that they are, if they are a name
+pub record Formats (name : CName) (n : ℕ) (old new : List ℕ) : Type 0 where
+  pub bad : key_of_words name.high name.low ≡ None → (n ≡ BAD_NAME) × (new ≡ old)
+  pub good : (m : Name) → key_of_words name.high name.low ≡ Some m
+      → (size : ℕ) × IsTextLength (bytes_of name.high name.low) size × WritesText (take size (bytes_of name.high name.low)) n old new
+
+-- of a name that was given, at a place of so many bytes
+abbrev pub FormatsBy : Option CName → ℕ → Option (List ℕ) → Option (List ℕ) → ℕ → Type 0
+FormatsBy None room text after n = (n ≡ NULL) × (after ≡ text)
+FormatsBy (Some name) room text after n = DoesBy room text after (n ≡ NULL) (λ old new. Formats name n old new)

@@ -4,9 +4,11 @@
 ghost use Rattle.std.specs.Prelude.{◌≡◌};
 ghost use Rattle.c_handles.specs.contracts.values.given.GivenName.{the_row};
 ghost use Rattle.c_handles.specs.contracts.values.given.GivenBytes.{the_row as bytes_row};
+ghost use Rattle.c_handles.specs.contracts.values.given.GivenEntry.{the_row as entry_row};
 ghost use Rattle.c_handles.specs.contracts.values.given.GivenSettings.{the_row as settings_row};
 ghost use Rattle.c_handles.specs.declared.values.given.GivenName.{GivenName};
 ghost use Rattle.c_handles.specs.declared.values.given.GivenBytes.{GivenBytes};
+ghost use Rattle.c_handles.specs.declared.values.given.GivenEntry.{GivenEntry};
 ghost use Rattle.c_handles.specs.declared.values.given.GivenSettings.{GivenSettings};
 ghost use Rattle.c_handles.specs.declared.values.place.EntryPlace.{EntryPlace};
 ghost use Rattle.c_handles.specs.declared.values.place.FlagPlace.{FlagPlace};
@@ -20,7 +22,7 @@ ghost use Rattle.c_handles.specs.declared.values.rows.EntriesPlace.{EntriesPlace
 ghost use Rattle.c_handles.specs.declared.values.rows.TextPlace.{TextPlace};
 
 use crate::values::given::{GivenBytes, GivenName};
-use crate::values::place::{NamePlace, WaitPlace};
+use crate::values::place::{EntryPlace, WaitPlace};
 use crate::values::rows::{BalancesPlace, EntriesPlace};
 use std::marker::Model;
 
@@ -76,6 +78,32 @@ impl Model for NameAnswer {
     ghost also_owns = { λ a. lends_name a.place.at a.place.value };
 }
 
+/// A call's number, and the name that was given.
+#[repr(C)]
+pub struct GivenNameAnswer {
+    pub number: u32,
+    pub ghost name: { GivenName } by { the_row.coded },
+}
+
+impl Model for GivenNameAnswer {
+    ghost use Rattle.c_handles.specs.values.Lent.{gives_name};
+
+    ghost also_owns = { λ a. gives_name a.name.share a.name.at a.name.name };
+}
+
+/// A call's number, and the entry that was given.
+#[repr(C)]
+pub struct GivenEntryAnswer {
+    pub number: u32,
+    pub ghost entry: { GivenEntry } by { entry_row.coded },
+}
+
+impl Model for GivenEntryAnswer {
+    ghost use Rattle.c_handles.specs.values.Lent.{gives_entry};
+
+    ghost also_owns = { λ a. gives_entry a.entry.share a.entry.at a.entry.entry };
+}
+
 /// A call's number, the place of a number again, and the name that was given.
 #[repr(C)]
 pub struct IdAnswer {
@@ -106,6 +134,56 @@ impl Model for NamedAnswer {
     ghost also_owns = { λ a. fsep (lends_entry a.place.at a.place.value) (gives_name a.name.share a.name.at a.name.name) };
 }
 
+/// A call's number, the place again, and the two names that were given: of an interface, and of its driver.
+#[repr(C)]
+pub struct IfaceAnswer {
+    pub number: u32,
+    pub ghost place: { EntryPlace },
+    pub ghost name: { GivenName } by { the_row.coded },
+    pub ghost driver: { GivenName } by { the_row.coded },
+}
+
+impl Model for IfaceAnswer {
+    ghost use base.Fml.{fsep};
+    ghost use Rattle.c_handles.specs.values.Lent.{gives_name, lends_entry};
+
+    ghost also_owns = { λ a. fsep (fsep (lends_entry a.place.at a.place.value) (gives_name a.name.share a.name.at a.name.name)) (gives_name a.driver.share a.driver.at a.driver.name) };
+}
+
+/// A call's number, the places of the new entry and of the old one again, and the name that was given.
+#[repr(C)]
+pub struct ReplaceAnswer {
+    pub number: u32,
+    pub ghost place: { EntryPlace },
+    pub ghost name: { GivenName } by { the_row.coded },
+    pub ghost gone: { EntryPlace },
+}
+
+impl Model for ReplaceAnswer {
+    ghost use base.Fml.{fsep};
+    ghost use Rattle.c_handles.specs.values.Lent.{gives_name, lends_entry};
+
+    ghost also_owns = { λ a. fsep (fsep (lends_entry a.place.at a.place.value) (gives_name a.name.share a.name.at a.name.name)) (lends_entry a.gone.at a.gone.value) };
+}
+
+/// The same with two names: of an interface, and of its driver.
+#[repr(C)]
+pub struct ReplaceIfaceAnswer {
+    pub number: u32,
+    pub ghost place: { EntryPlace },
+    pub ghost name: { GivenName } by { the_row.coded },
+    pub ghost gone: { EntryPlace },
+    pub ghost driver: { GivenName } by { the_row.coded },
+}
+
+impl Model for ReplaceIfaceAnswer {
+    ghost use base.Fml.{fsep};
+    ghost use Rattle.c_handles.specs.values.Lent.{gives_name, lends_entry};
+
+    ghost also_owns = { λ a. fsep (fsep (fsep (lends_entry a.place.at a.place.value) (gives_name a.name.share a.name.at a.name.name)) (lends_entry a.gone.at a.gone.value))
+        (gives_name a.driver.share a.driver.at a.driver.name) };
+}
+
 /// A call's number, and the place again.
 #[repr(C)]
 pub struct SettingsAnswer {
@@ -132,35 +210,19 @@ impl Model for StageAnswer {
     ghost also_owns = { λ a. lends_stage a.place.at a.place.value };
 }
 
-/// A call's number, the place of a number again, and that of a name.
-#[repr(C)]
-pub struct ParsedAnswer {
-    pub number: u32,
-    pub ghost place: { NumberPlace },
-    pub ghost name: { NamePlace },
-}
-
-impl Model for ParsedAnswer {
-    ghost use base.Fml.{fsep};
-    ghost use Rattle.c_handles.specs.values.Lent.{lends_name, lends_number};
-
-    ghost also_owns = { λ a. fsep (lends_number a.place.at a.place.value) (lends_name a.name.at a.name.value) };
-}
-
-/// A call's number, the place of a number again, that of a name, and the bytes that were given.
+/// A call's number, the place of a name again, and the bytes that were given.
 #[repr(C)]
 pub struct BytesAnswer {
     pub number: u32,
-    pub ghost place: { NumberPlace },
-    pub ghost name: { NamePlace },
+    pub ghost place: { NamePlace },
     pub ghost bytes: { GivenBytes } by { bytes_row.coded },
 }
 
 impl Model for BytesAnswer {
     ghost use base.Fml.{fsep};
-    ghost use Rattle.c_handles.specs.values.Lent.{gives_bytes, lends_name, lends_number};
+    ghost use Rattle.c_handles.specs.values.Lent.{gives_bytes, lends_name};
 
-    ghost also_owns = { λ a. fsep (fsep (lends_number a.place.at a.place.value) (lends_name a.name.at a.name.value)) (gives_bytes a.bytes.share a.bytes.at a.bytes.bytes) };
+    ghost also_owns = { λ a. fsep (lends_name a.place.at a.place.value) (gives_bytes a.bytes.share a.bytes.at a.bytes.bytes) };
 }
 
 /// A call's number, and the place of a wait again.
@@ -204,10 +266,25 @@ impl Model for OpenAnswer {
     ghost also_owns = { λ a. gives_settings a.settings.share a.settings.at a.settings.settings };
 }
 
-/// The length of a text, and its place again.
+/// A call's number, the place of a text again, and the name that was given.
+#[repr(C)]
+pub struct FormatAnswer {
+    pub number: u32,
+    pub ghost place: { TextPlace },
+    pub ghost name: { GivenName } by { the_row.coded },
+}
+
+impl Model for FormatAnswer {
+    ghost use base.Fml.{fsep};
+    ghost use Rattle.c_handles.specs.values.Lent.{gives_name, lends_text};
+
+    ghost also_owns = { λ a. fsep (lends_text a.place.at a.place.value) (gives_name a.name.share a.name.at a.name.name) };
+}
+
+/// A call's number, and the place of a text again.
 #[repr(C)]
 pub struct TextAnswer {
-    pub number: usize,
+    pub number: u32,
     pub ghost place: { TextPlace },
 }
 
@@ -268,15 +345,6 @@ impl NumberAnswer {
         IdAnswer { number }
     }
 
-    /// Gives a name's place back, too.
-    pub fn with_name(self, name: NamePlace) -> ParsedAnswer
-        ensures { result ≡ record { number = self.number; place = self.place; name = name } }
-    {
-        let NumberAnswer { number } = self;
-        let NamePlace { at: _ } = name;
-        ParsedAnswer { number }
-    }
-
     /// Gives a wait's place back, too.
     pub fn with_wait(self, wait: WaitPlace) -> TurnAnswer
         ensures { result ≡ record { number = self.number; place = self.place; wait = wait } }
@@ -305,13 +373,55 @@ impl NumberAnswer {
     }
 }
 
-impl ParsedAnswer {
+impl NameAnswer {
     /// Gives bytes back, too.
     pub fn with_bytes(self, bytes: GivenBytes) -> BytesAnswer
-        ensures { result ≡ record { number = self.number; place = self.place; name = self.name; bytes = bytes } }
+        ensures { result ≡ record { number = self.number; place = self.place; bytes = bytes } }
     {
-        let ParsedAnswer { number } = self;
+        let NameAnswer { number } = self;
         let GivenBytes { at: _ } = bytes;
         BytesAnswer { number }
+    }
+}
+
+impl TextAnswer {
+    /// Gives a name back, too.
+    pub fn with_name(self, name: GivenName) -> FormatAnswer
+        ensures { result ≡ record { number = self.number; place = self.place; name = name } }
+    {
+        let TextAnswer { number } = self;
+        let GivenName { at: _ } = name;
+        FormatAnswer { number }
+    }
+}
+
+impl NamedAnswer {
+    /// Gives the driver's name back, too.
+    pub fn with_driver(self, driver: GivenName) -> IfaceAnswer
+        ensures { result ≡ record { number = self.number; place = self.place; name = self.name; driver = driver } }
+    {
+        let NamedAnswer { number } = self;
+        let GivenName { at: _ } = driver;
+        IfaceAnswer { number }
+    }
+
+    /// Gives the old entry's place back, too.
+    pub fn with_gone(self, gone: EntryPlace) -> ReplaceAnswer
+        ensures { result ≡ record { number = self.number; place = self.place; name = self.name; gone = gone } }
+    {
+        let NamedAnswer { number } = self;
+        let EntryPlace { at: _ } = gone;
+        ReplaceAnswer { number }
+    }
+}
+
+impl ReplaceAnswer {
+    /// Gives the driver's name back, too.
+    pub fn with_driver(self, driver: GivenName) -> ReplaceIfaceAnswer
+        ensures { result ≡ record { number = self.number; place = self.place; name = self.name; gone = self.gone; driver = driver } }
+    {
+        let ReplaceAnswer { number } = self;
+        let GivenName { at: _ } = driver;
+        ReplaceIfaceAnswer { number }
     }
 }

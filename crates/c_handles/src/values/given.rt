@@ -1,13 +1,14 @@
 //! What C gives a call to read, at a pointer of its own, or nowhere. It needs no more than a share of it, so several threads may read one.
 
 ghost use Rattle.std.specs.Prelude.{◌≡◌, List, Option, ℕ};
+ghost use Rattle.c_handles.specs.declared.values.plain.CEntry.{CEntry};
 ghost use Rattle.c_handles.specs.declared.values.plain.CName.{CName};
 ghost use Rattle.c_handles.specs.declared.values.plain.CSettings.{CSettings};
 ghost use base.Fml.{Share};
 ghost use base.SetCodes.{coded_share};
 
-use crate::values::answer::OpenAnswer;
-use crate::values::plain::{CName, CSettings};
+use crate::values::answer::{GivenEntryAnswer, GivenNameAnswer, OpenAnswer};
+use crate::values::plain::{CEntry, CName, CSettings};
 use std::marker::Model;
 
 /// A name of C's to read, at a pointer or nowhere.
@@ -35,6 +36,50 @@ impl GivenName {
         }
         let name = unsafe { *(at as *mut CName) };
         Some(name)
+    }
+
+    /// Gives it back with a call's number.
+    pub fn answer(self, number: u32) -> GivenNameAnswer
+        ensures { result ≡ record { number = number; name = self } }
+    {
+        let GivenName { at: _ } = self;
+        GivenNameAnswer { number }
+    }
+}
+
+/// An entry of C's to read, at a pointer or nowhere.
+#[repr(C)]
+pub struct GivenEntry {
+    at: *mut u8,
+    pub ghost share: { Share } by { coded_share },
+    pub ghost entry: { Option CEntry },
+}
+
+impl Model for GivenEntry {
+    ghost use Rattle.c_handles.specs.values.Lent.{gives_entry};
+
+    ghost also_owns = { λ g. gives_entry g.share g.at g.entry };
+}
+
+impl GivenEntry {
+    /// The entry, if there is one.
+    pub fn entry(&mut self) -> Option<CEntry>
+        ensures { (self.new ≡ self.old) × (result ≡ self.old.entry) }
+    {
+        let at = self.at;
+        if at.is_null() {
+            return None;
+        }
+        let entry = unsafe { *(at as *mut CEntry) };
+        Some(entry)
+    }
+
+    /// Gives it back with a call's number.
+    pub fn answer(self, number: u32) -> GivenEntryAnswer
+        ensures { result ≡ record { number = number; entry = self } }
+    {
+        let GivenEntry { at: _ } = self;
+        GivenEntryAnswer { number }
     }
 }
 

@@ -1,6 +1,6 @@
 //! Places of C's own that a call writes what it finds to, if they aren't null. C passes a pointer: a struct of one crosses as it does.
 
-ghost use Rattle.std.specs.Prelude.{◌≡◌, Bool, Option, ℕ};
+ghost use Rattle.std.specs.Prelude.{◌≡◌, Bool, Option, is_none, ℕ};
 ghost use Rattle.c_handles.specs.declared.values.plain.CEntry.{CEntry};
 ghost use Rattle.c_handles.specs.declared.values.plain.CName.{CName};
 ghost use Rattle.c_handles.specs.declared.values.plain.CSettings.{CSettings};
@@ -113,7 +113,7 @@ impl NumberPlace {
 /// An entry of C's, at a pointer or nowhere.
 #[repr(C)]
 pub struct EntryPlace {
-    at: *mut u8,
+    pub at: *mut u8,
     pub ghost value: { Option CEntry },
 }
 
@@ -137,6 +137,16 @@ impl EntryPlace {
             return None;
         }
         Some(unsafe { &mut *(at as *mut CEntry) })
+    }
+
+    /// Whether there is none.
+    pub fn is_null(&mut self) -> bool
+        ensures { (self.new ≡ self.old) × (result ≡ is_none self.old.value) }
+    {
+        match self.value_mut() {
+            None => true,
+            Some(_) => false,
+        }
     }
 
     /// Writes it there.
@@ -283,6 +293,16 @@ impl NamePlace {
         Some(unsafe { &mut *(at as *mut CName) })
     }
 
+    /// Whether there is none.
+    pub fn is_null(&mut self) -> bool
+        ensures { (self.new ≡ self.old) × (result ≡ is_none self.old.value) }
+    {
+        match self.value_mut() {
+            None => true,
+            Some(_) => false,
+        }
+    }
+
     /// Writes it there.
     pub fn put(&mut self, name: CName)
         ensures same { self.new.at ≡ self.old.at }
@@ -292,6 +312,7 @@ impl NamePlace {
             *place = name;
         }
     }
+
     /// Gives it back with a call's number.
     pub fn answer(self, number: u32) -> NameAnswer
         ensures { result ≡ record { number = number; place = self } }

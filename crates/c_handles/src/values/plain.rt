@@ -2,10 +2,10 @@
 
 ghost use Rattle.std.specs.Prelude.{◌≡◌, IfOk, IfErr, false};
 ghost use Rattle.registry_values.specs.Common.{are_fit, number_of_refusal};
-ghost use Rattle.c_handles.specs.values.Texts.{entry_out, fault_of, kind_in, name_in, name_out, number_of, settings_in, settings_out, stage_out};
+ghost use Rattle.c_handles.specs.values.Texts.{entry_again, entry_out, kind_given, kind_in, name_in, name_out, no_entry, no_passive, number_of, passive_again, settings_in, settings_out, stage_out};
 
 use registry_values::{
-    Entry, Kind, MOST_CPUS, MOST_SLOTS, Name, NameFault, Refusal, Settings, Stage, kind_word,
+    Entry, Kind, MOST_CPUS, MOST_SLOTS, Name, Refusal, Settings, Stage, kind_word,
 };
 
 /// Done. Numbers 1 to 19 are those of the refusals (`Refusal::number`).
@@ -18,14 +18,10 @@ pub const EMPTY_HANDLE: u32 = 65;
 pub const FULL_HANDLE: u32 = 66;
 /// Neither an interface nor a driver.
 pub const BAD_KIND: u32 = 68;
-/// Two words of 0, or the name of no id.
+/// Two words of 0, no bytes or zeros alone, or the name of no id.
 pub const BAD_NAME: u32 = 69;
-/// A name has at least one byte.
-pub const NAME_EMPTY: u32 = 70;
-/// A name has at most 15 bytes.
+/// A name has at most 16 bytes.
 pub const NAME_TOO_LONG: u32 = 71;
-/// A byte may not stand where it does.
-pub const NAME_BAD_BYTE: u32 = 72;
 /// The keeper has collected this CPU's count.
 pub const COLLECTED: u32 = 73;
 /// The keeper has collected no count of this entry.
@@ -68,6 +64,14 @@ pub struct CEntry {
     pub value: u64,
 }
 
+/// A passive reference: its entry, and the number of its CPU. It is empty exactly if its entry's number is 0.
+#[repr(C)]
+#[derive(Clone, Copy)]
+pub struct CPassive {
+    pub entry: CEntry,
+    pub cpu: u64,
+}
+
 /// How far the destruction of an entry has come: 0 grace, 1 passive, 2 local, 3 freed, each with its CPU, count or slot.
 #[repr(C)]
 #[derive(Drop)]
@@ -104,19 +108,8 @@ pub fn answered(answer: Result<(), Refusal>) -> u32
     }
 }
 
-/// The number of a fault of a name.
-pub fn faulty(fault: NameFault) -> u32
-    ensures { result ≡ fault_of fault }
-{
-    match fault {
-        NameFault::Empty => NAME_EMPTY,
-        NameFault::TooLong => NAME_TOO_LONG,
-        NameFault::BadByte(_) => NAME_BAD_BYTE,
-    }
-}
-
-/// The kind of a word: 1 an interface, 2 a driver.
-pub fn kind_in(word: u64) -> Option<Kind>
+/// The kind of a word: 1 an interface, 2 a driver. C's enum has the size of an `unsigned`.
+pub fn kind_in(word: u32) -> Option<Kind>
     ensures { result ≡ kind_in word }
 {
     if word == 1 {
@@ -185,6 +178,59 @@ pub fn entry_out(entry: Entry) -> CEntry
         kind: kind_word(entry.rec.kind),
         name: name_out(entry.rec.name),
         value: entry.rec.value,
+    }
+}
+
+/// C's number for the kind of an entry that C gives. It is the low half of its word: what is in the high half is padding to C.
+pub fn kind_given(entry: &CEntry) -> u32
+    ensures { result ≡ kind_given entry.now }
+{
+    (entry.kind % (1 << 32)) as u32
+}
+
+/// An entry that C gives, again to C, with nothing in the padding.
+pub fn entry_again(entry: &CEntry) -> CEntry
+    ensures { result ≡ entry_again entry.now }
+{
+    CEntry {
+        number: entry.number,
+        slot: entry.slot,
+        kind: u64::from(kind_given(entry)),
+        name: entry.name,
+        value: entry.value,
+    }
+}
+
+/// A reference that C gives, again to C.
+pub fn passive_again(reference: &CPassive) -> CPassive
+    ensures { result ≡ passive_again reference.now }
+{
+    CPassive {
+        entry: entry_again(&reference.entry),
+        cpu: reference.cpu,
+    }
+}
+
+/// The entry that C's {0} is: none.
+pub fn no_entry() -> CEntry
+    ensures { result ≡ no_entry }
+{
+    CEntry {
+        number: 0,
+        slot: 0,
+        kind: 0,
+        name: CName { high: 0, low: 0 },
+        value: 0,
+    }
+}
+
+/// The reference that C's {0} is: of nothing.
+pub fn no_passive() -> CPassive
+    ensures { result ≡ no_passive }
+{
+    CPassive {
+        entry: no_entry(),
+        cpu: 0,
     }
 }
 

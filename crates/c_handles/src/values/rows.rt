@@ -45,8 +45,8 @@ impl TextPlace {
         unsafe { from_raw_parts_mut(at as *mut u8, length) }
     }
 
-    /// Gives it back with the length of a text.
-    pub fn answer(self, number: usize) -> TextAnswer
+    /// Gives it back with a call's number.
+    pub fn answer(self, number: u32) -> TextAnswer
         ensures { result ≡ record { number = number; place = self } }
     {
         let TextPlace { at: _ } = self;

@@ -1,93 +1,71 @@
-//! Names from bytes and from ids, and what an answer says: calls that need no handle.
+//! Names from bytes and from ids, and their bytes again: calls that need no handle.
 
-ghost use Rattle.std.specs.Prelude.{◌≡◌, ◌-◌, ◌<◌, ◌≤◌, length, take, Some};
+ghost use Rattle.std.specs.Prelude.{◌≡◌, ◌≢◌, ◌-◌, ◌<◌, ◌≤◌, get_or, length, take, Some, ℕ};
+ghost use Rattle.registry_values.specs.Common.{bytes_of};
 ghost use Rattle.c_handles.specs.Heap.{IsLong, IsThere};
 ghost use Rattle.registry_values.specs.Names.{name_of_id};
 ghost use Rattle.c_handles.specs.values.Places.{put};
-ghost use Rattle.c_handles.specs.values.Texts.{IsAnswer, IsWritten, Parses, ParsesGiven, TellsBy, TellsId, name_out};
+ghost use Rattle.c_handles.specs.values.Texts.{Formats, FormatsBy, IsTextLength, IsWritten, NamesBytes, TellsId, WritesText, name_out};
 
-use crate::values::answer::{BytesAnswer, IdAnswer, NameAnswer, TextAnswer};
+use crate::values::answer::{BytesAnswer, FormatAnswer, IdAnswer, NameAnswer};
 use crate::values::given::{GivenBytes, GivenName};
 use crate::values::place::{NamePlace, NumberPlace};
-use crate::values::plain::{BAD_NAME, DONE, NULL, faulty, name_in, name_out};
+use crate::values::plain::{
+    BAD_NAME, CName, DONE, NAME_TOO_LONG, NO_ROOM, NULL, name_in, name_out,
+};
 use crate::values::rows::TextPlace;
-use registry_values::{Name, NameFault};
+use registry_values::Name;
 
-/// Writes the name that the bytes are, if there are any or needn't be, or where the bad byte stands: `registry_name_parse` of the header.
-pub fn parse_name(
-    mut bytes: GivenBytes,
-    length: usize,
-    mut name: NamePlace,
-    mut place: NumberPlace,
-) -> BytesAnswer
+/// Writes the name that the bytes are: `kupaldiz_name_of_bytes` of the header.
+pub fn name_of_bytes(mut bytes: GivenBytes, length: usize, mut name: NamePlace) -> BytesAnswer
     requires length { IsLong bytes.bytes length }
     ensures given { result.bytes ≡ bytes }
-    ensures places { (result.name.at ≡ name.at) × (result.place.at ≡ place.at) }
-    ensures call { ParsesGiven length bytes.bytes result.number name.value result.name.value place.value result.place.value }
+    ensures place { result.place.at ≡ name.at }
+    ensures call { NamesBytes bytes.bytes result.number name.value result.place.value }
 {
-    let answer = parse_given(&mut bytes, length, &mut name, &mut place);
-    place.answer(answer).with_name(name).with_bytes(bytes)
+    let answer = name_bytes(&mut bytes, length, &mut name);
+    name.answer(answer).with_bytes(bytes)
 }
 
-/// Parses the bytes, if there are any or needn't be.
-fn parse_given(
-    bytes: &mut GivenBytes,
-    length: usize,
-    name: &mut NamePlace,
-    place: &mut NumberPlace,
-) -> u32
+/// Writes the name that the bytes are, if there are bytes and a place.
+fn name_bytes(bytes: &mut GivenBytes, length: usize, name: &mut NamePlace) -> u32
     requires length { IsLong bytes.old.bytes length }
     ensures given { bytes.new ≡ bytes.old }
-    ensures places { (name.new.at ≡ name.old.at) × (place.new.at ≡ place.old.at) }
-    ensures call { ParsesGiven length bytes.old.bytes result name.old.value name.new.value place.old.value place.new.value }
+    ensures place { name.new.at ≡ name.old.at }
+    ensures call { NamesBytes bytes.old.bytes result name.old.value name.new.value }
 {
-    if bytes.is_null() {
-        if length != 0 {
-            return NULL;
-        }
-        return parse(&[], name, place);
+    if bytes.is_null() || name.is_null() {
+        return NULL;
     }
-    if length > 15 {
-        return faulty(NameFault::TooLong);
+    if length > 16 {
+        return NAME_TOO_LONG;
     }
     let row = read_bytes(bytes, length);
-    parse(&row[..length], name, place)
+    match Name::from_key_bytes(&row[..length]) {
+        Some(made) => {
+            name.put(name_out(made));
+            DONE
+        }
+        None => BAD_NAME,
+    }
 }
 
 /// So many bytes, in the first places. Conditions: there are so many, and not too many.
 #[tactic(auto, using(crate::proofs::Written::all_read))]
-fn read_bytes(bytes: &mut GivenBytes, length: usize) -> [u8; 15]
+fn read_bytes(bytes: &mut GivenBytes, length: usize) -> [u8; 16]
     requires there { IsThere bytes.old.bytes length }
-    requires few { length ≤ 15 }
+    requires few { length ≤ 16 }
     ensures same { bytes.new ≡ bytes.old }
     ensures read { bytes.old.bytes ≡ Some (take length result) }
 {
-    let mut row = [0; 15];
+    let mut row = [0; 16];
     for k in 0..length {
         row[k] = bytes.byte(k);
     }
     row
 }
 
-/// Writes the name that the bytes are, or where the bad byte stands.
-fn parse(bytes: &[u8], name: &mut NamePlace, place: &mut NumberPlace) -> u32
-    ensures places { (name.new.at ≡ name.old.at) × (place.new.at ≡ place.old.at) }
-    ensures call { Parses bytes.now result name.old.value name.new.value place.old.value place.new.value }
-{
-    match Name::parse(bytes) {
-        Ok(parsed) => {
-            name.put(name_out(parsed));
-            DONE
-        }
-        Err(NameFault::BadByte(at)) => {
-            place.put(u64::from(at));
-            faulty(NameFault::BadByte(at))
-        }
-        Err(fault) => faulty(fault),
-    }
-}
-
-/// Writes the name of an id, if there is a place for it: `registry_name_of_id` of the header.
+/// Writes the name of an id, if there is a place for it: `kupaldiz_name_of_id` of the header.
 pub fn name_of_id(id: u64, mut name: NamePlace) -> NameAnswer
     ensures number { result.number ≡ DONE }
     ensures place { result.place.at ≡ name.at }
@@ -97,7 +75,7 @@ pub fn name_of_id(id: u64, mut name: NamePlace) -> NameAnswer
     name.answer(DONE)
 }
 
-/// Writes the id that has the name, if there is one and a place for it: `registry_id_of_name` of the header.
+/// Writes the id that has the name, if there is one and a place for it: `kupaldiz_id_of_name` of the header.
 pub fn id_of_name(mut name: GivenName, mut id: NumberPlace) -> IdAnswer
     ensures given { result.name ≡ name }
     ensures place { result.place.at ≡ id.at }
@@ -125,117 +103,94 @@ fn read_id(name: &mut GivenName, id: &mut NumberPlace) -> u32
     }
 }
 
-/// Writes the text of an answer, if there is a place for it: `registry_text` of the header.
-pub fn text(answer: u32, mut text: TextPlace, room: usize) -> TextAnswer
+/// Writes the bytes of a name, and a zero: `kupaldiz_name_format` of the header.
+pub fn format_name(mut name: GivenName, mut text: TextPlace, room: usize) -> FormatAnswer
     requires room { IsLong text.value room }
+    ensures given { result.name ≡ name }
     ensures place { result.place.at ≡ text.at }
-    ensures call { TellsBy answer result.number text.value result.place.value }
+    ensures call { FormatsBy name.name room text.value result.place.value result.number }
 {
-    let length = tell(answer, &mut text, room);
-    text.answer(length)
+    let answer = format_given(&mut name, &mut text, room);
+    text.answer(answer).with_name(name)
 }
 
-/// Writes what the answer says, if there is a place for it. The answer is how long it is.
-fn tell(answer: u32, text: &mut TextPlace, room: usize) -> usize
+/// Writes the bytes of the name, if there is one, and a place for them or none needed.
+fn format_given(name: &mut GivenName, text: &mut TextPlace, room: usize) -> u32
     requires room { IsLong text.old.value room }
+    ensures given { name.new ≡ name.old }
     ensures place { text.new.at ≡ text.old.at }
-    ensures call { TellsBy answer result text.old.value text.new.value }
+    ensures call { FormatsBy name.old.name room text.old.value text.new.value result }
 {
-    let words = text_of(answer);
-    if text.is_null() {
-        return words.len();
+    let Some(name) = name.name() else {
+        return NULL;
+    };
+    if !text.is_null() {
+        return format(&name, text.row_mut(room));
     }
-    write_text(words, text.row_mut(room));
-    words.len()
+    if room != 0 {
+        return NULL;
+    }
+    format(&name, &mut [])
 }
 
-/// Writes the words and a zero, cut to the room.
-#[tactic(auto, using(crate::proofs::Written::none_copied, crate::proofs::Written::not_written, crate::proofs::Written::written))]
+/// Writes the bytes of the name, if it is one.
+fn format(name: &CName, text: &mut [u8]) -> u32
+    ensures { Formats name.now result text.old text.new }
+{
+    let Some(name) = Name::from_key_words(name.high, name.low) else {
+        return BAD_NAME;
+    };
+    let (high, low) = name.words();
+    let bytes = bytes_of(high, low);
+    let length = text_length(&bytes);
+    write_whole(&bytes[..length], text)
+}
+
+/// The bytes of two words, the high ones first.
+fn bytes_of(high: u64, low: u64) -> [u8; 16]
+    ensures { result ≡ bytes_of high low }
+{
+    let h = high.to_be_bytes();
+    let l = low.to_be_bytes();
+    [
+        h[0], h[1], h[2], h[3], h[4], h[5], h[6], h[7], l[0], l[1], l[2], l[3], l[4], l[5], l[6],
+        l[7],
+    ]
+}
+
+/// How many bytes there are up to the last one that isn't 0.
+#[tactic(auto, using(crate::proofs::Written::all_long, crate::proofs::Written::as_long, crate::proofs::Written::longer, crate::proofs::Written::none_long))]
+fn text_length(bytes: &[u8; 16]) -> usize
+    ensures { IsTextLength bytes.now result }
+{
+    let mut length = 0;
+    for k in 0..16 {
+        if bytes[k] != 0 {
+            length = k + 1;
+        }
+    }
+    length
+}
+
+/// Writes the words and a zero, if there is room for all.
+fn write_whole(words: &[u8], text: &mut [u8]) -> u32
+    ensures { WritesText words.now result text.old text.new }
+{
+    if text.len() <= words.len() {
+        return NO_ROOM;
+    }
+    write_text(words, text);
+    DONE
+}
+
+/// Writes the words and a zero. Condition: there is room for both.
+#[tactic(auto, using(crate::proofs::Written::none_copied, crate::proofs::Written::written))]
 fn write_text(words: &[u8], text: &mut [u8])
+    requires { length words.now < length text.old }
     ensures { IsWritten words.now text.old text.new }
 {
-    if text.is_empty() {
-        return;
-    }
-    let count = fitting(words.len(), text.len());
-    for k in 0..count {
+    for k in 0..words.len() {
         text[k] = words[k];
     }
-    text[count] = 0;
-}
-
-/// How many bytes of so many go into the room, beside a zero.
-fn fitting(length: usize, room: usize) -> usize
-    requires { 0 < room }
-    ensures room { result < room }
-    ensures few { result ≤ length }
-    ensures whole { length < room → result ≡ length }
-    ensures cut { room ≤ length → result ≡ room - 1 }
-{
-    if length < room { length } else { room - 1 }
-}
-
-/// The text of a number that a call returns; empty if no call returns it.
-fn text_of(answer: u32) -> &'static [u8]
-    ensures known { IsAnswer answer → 0 < length result.now }
-    ensures unknown { 0 < length result.now → IsAnswer answer }
-{
-    if answer == 11 || answer == 67 {
-        return b"";
-    }
-    if answer < 20 {
-        return refusal_text(answer);
-    }
-    if answer < 64 || answer > 77 {
-        return b"";
-    }
-    own_text(answer)
-}
-
-/// What an answer says that is no refusal of the registry's own.
-fn own_text(answer: u32) -> &'static [u8]
-    ensures { 0 < length result.now }
-{
-    match answer {
-        64 => b"this CPU is outside any section",
-        65 => b"a handle is empty",
-        66 => b"a handle isn't empty",
-        68 => b"neither an interface nor a driver",
-        69 => b"these two words aren't a name, or aren't the name of an id",
-        70 => b"a name has at least one byte",
-        71 => b"a name has at most 15 bytes",
-        72 => b"a byte of the name may not stand there",
-        73 => b"the keeper has collected this CPU's count of the entry",
-        74 => b"the keeper has collected no count of the entry",
-        75 => b"the list is too short",
-        76 => b"the wait was never begun",
-        _ => b"a pointer is null to something that the call needs",
-    }
-}
-
-/// The text of a refusal, by its number. 0 is none, and no call returns 11: a passive reference is a number here.
-fn refusal_text(answer: u32) -> &'static [u8]
-    ensures { 0 < length result.now }
-{
-    match answer {
-        0 => b"done",
-        1 => b"out of memory",
-        2 => b"a setting is out of its range",
-        3 => b"a live entry has this kind and name",
-        4 => b"no slot is vacant",
-        5 => b"the history has no room for this attach and the detaches to come",
-        6 => b"no live entry has this kind and name",
-        7 => b"this CPU is inside a section",
-        8 => b"this CPU has begun as many sections as it may",
-        9 => b"this CPU has no last found entry",
-        10 => b"this CPU has as many passive references to the entry as it may",
-        12 => b"this CPU holds no passive reference to that entry",
-        13 => b"this CPU's net count of local references to the entry is at its limit",
-        14 => b"no retired entry has this number",
-        15 => b"the CPUs given aren't all CPUs in their order",
-        16 => b"the entry is still held",
-        17 => b"a CPU is still inside its section",
-        18 => b"this CPU's section is nested as deep as it may be",
-        _ => b"an interface needs a reference to a driver",
-    }
+    text[words.len()] = 0;
 }

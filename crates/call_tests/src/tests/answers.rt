@@ -70,6 +70,8 @@ pub(crate) enum Answer {
     Nothing,
     /// The entry with this number, in this slot.
     At(u64, u8),
+    /// The number of the entry that was replaced, and of the other one, in this slot.
+    Replaced(u64, u64, u8),
     /// How the destruction of an entry has come on.
     Come(Stage),
     /// The number of a slot, or how many there are.
@@ -102,6 +104,22 @@ pub(crate) fn come(answer: Result<Stage, Refusal>) -> Answer {
 pub(crate) fn entry<R: Abort>(rt: &R, answer: Result<Entry, Refusal>, rec: Record) -> Answer {
     match answer {
         Ok(entry) => at(rt, entry, rec),
+        Err(refusal) => Answer::Refused(refusal),
+    }
+}
+
+/// The two entries: the new one has this record, and the old one its kind and name.
+pub(crate) fn replaced<R: Abort>(
+    rt: &R,
+    answer: Result<(Entry, Entry), Refusal>,
+    rec: Record,
+) -> Answer {
+    match answer {
+        Ok((old, new)) => {
+            let value = old.rec.value;
+            assert_eq!(rt; (old.rec, new.rec), (Record { value, ..rec }, rec));
+            Answer::Replaced(old.number, new.number, new.slot)
+        }
         Err(refusal) => Answer::Refused(refusal),
     }
 }

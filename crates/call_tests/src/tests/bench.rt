@@ -2,7 +2,7 @@
 
 ghost use Rattle.name_registry.specs.Common.{IsBlankOf};
 
-use super::answers::{Answer, Wanted, come, done, entry, record};
+use super::answers::{Answer, Wanted, come, done, entry, record, replaced};
 use super::readers::{Held, Reader, by_reader};
 use super::registry_rows::{changed, counted};
 use super::remembered::full_by_memory;
@@ -10,7 +10,7 @@ use super::turns::{Row, together};
 use cpu_words::Domain;
 use name_registry::{Blank, Registry};
 use passive_list::Cpu;
-use registry_values::{Refusal, Settings, USUAL_SECTIONS};
+use registry_values::{Kind, Refusal, Settings, USUAL_SECTIONS};
 use std::alloc::Global;
 use std::marker::Brand;
 use std::process::Abort;
@@ -81,6 +81,10 @@ pub(crate) enum Step {
     Gets(u8, Wanted),
     /// It releases the row's local reference.
     Uncounts(u8),
+    /// It attaches this interface, on the driver of the row's local reference.
+    Plugs(u8, Wanted),
+    /// It puts this interface, on the driver of the row's local reference, in the place of the live one with its name.
+    Replugs(u8, Wanted),
     Reads(u8, Reader),
 }
 
@@ -89,6 +93,8 @@ pub(crate) enum Step {
 pub(crate) enum Call {
     Attach(Wanted),
     Detach(Wanted),
+    /// It puts this driver in the place of the live one with its name.
+    Replace(Wanted),
     LookUp(Wanted),
     /// It waits for the open sections, for so many turns.
     Perform(u32),
@@ -139,8 +145,12 @@ impl<D: Domain> Bench<D> {
     }
 
     fn take<R: Wait + Abort>(&mut self, rt: &R, refs: &mut Held<D>, step: Step) -> Answer {
-        let (Step::By(cpu, _) | Step::Gets(cpu, _) | Step::Uncounts(cpu) | Step::Reads(cpu, _)) =
-            step;
+        let (Step::By(cpu, _)
+        | Step::Gets(cpu, _)
+        | Step::Uncounts(cpu)
+        | Step::Plugs(cpu, _)
+        | Step::Replugs(cpu, _)
+        | Step::Reads(cpu, _)) = step;
         let Some(cpu) = self.cpus.get_mut(usize::from(cpu)) else {
             panic!(rt; "three CPUs");
         };
@@ -151,6 +161,8 @@ impl<D: Domain> Bench<D> {
                 self.registry.release_local(rt, cpu, refs.take_local(rt));
                 Answer::Done
             }
+            Step::Plugs(_, wanted) => plugged(rt, &self.registry, cpu, refs, wanted),
+            Step::Replugs(_, wanted) => replugged(rt, &self.registry, cpu, refs, wanted),
             Step::Reads(_, call) => by_reader(rt, self.registry.words(), cpu, refs, call),
         }
     }
@@ -172,6 +184,11 @@ pub(crate) fn by_cpu<D: Domain, R: Wait + Abort>(
             let rec = record(rt, wanted);
             entry(rt, registry.detach(rt, cpu, rec.kind, &rec.name), rec)
         }
+        Call::Replace(wanted) => {
+            assert!(rt; wanted.kind == Kind::Driver);
+            let rec = record(rt, wanted);
+            replaced(rt, registry.replace(rt, cpu, &rec.name, rec.value), rec)
+        }
         Call::LookUp(wanted) => {
             let rec = record(rt, wanted);
             entry(rt, registry.look_up(cpu, rec.kind, &rec.name), rec)
@@ -179,6 +196,43 @@ pub(crate) fn by_cpu<D: Domain, R: Wait + Abort>(
         Call::Perform(turns) => performed(rt, registry, cpu, turns),
         Call::Destroy(number, turns) => destroyed(rt, registry, cpu, number, turns),
         Call::Advance(number) => come(registry.advance(rt, number)),
+    }
+}
+
+fn plugged<D: Domain, R: Wait + Abort>(
+    rt: &R,
+    registry: &Registry<D>,
+    cpu: &mut Cpu<D>,
+    refs: &mut Held<D>,
+    wanted: Wanted,
+) -> Answer {
+    assert!(rt; wanted.kind == Kind::Iface);
+    let rec = record(rt, wanted);
+    match registry.attach_iface(rt, cpu, rec, refs.take_local(rt)) {
+        Ok(made) => entry(rt, Ok(made), rec),
+        Err((refusal, reference)) => {
+            refs.keep_local(rt, reference);
+            Answer::Refused(refusal)
+        }
+    }
+}
+
+fn replugged<D: Domain, R: Wait + Abort>(
+    rt: &R,
+    registry: &Registry<D>,
+    cpu: &mut Cpu<D>,
+    refs: &mut Held<D>,
+    wanted: Wanted,
+) -> Answer {
+    assert!(rt; wanted.kind == Kind::Iface);
+    let rec = record(rt, wanted);
+    let driver = refs.take_local(rt);
+    match registry.replace_iface(rt, cpu, &rec.name, rec.value, driver) {
+        Ok(entries) => replaced(rt, Ok(entries), rec),
+        Err((refusal, reference)) => {
+            refs.keep_local(rt, reference);
+            Answer::Refused(refusal)
+        }
     }
 }
 

@@ -8,6 +8,7 @@ mod memory_tests;
 mod readers;
 mod registry_rows;
 mod remembered;
+mod replace_rows;
 mod table;
 mod threads;
 mod turns;

@@ -1,12 +1,15 @@
 //! What a CPU does with the words alone: sections, lookups, and references that a row holds.
 
+ghost use Rattle.std.specs.Prelude.{◌<◌};
 ghost use Rattle.cpu_words.specs.Common.{AreWordsOf};
 
 use super::answers::{Answer, Wanted, at, done, record};
 use cpu_words::{Domain, Words};
 use local_count::{LocalRef, acquire_local};
-use passive_list::{Cpu, enter, exit, find, find_inside, find_remembered, may_begin_on, recall_on};
-use passive_ref::{Psref, acquire, copy, get_remembered, held, read, release};
+use passive_list::{
+    Cpu, Seen, enter, exit, find, find_by_memory, find_inside_on, may_begin_on, recall_word,
+};
+use passive_ref::{Psref, acquire, copy, get_by_memory, held, read, release};
 use registry_values::{Entry, MOST_SLOTS, Record, Refusal};
 use std::process::Abort;
 
@@ -75,6 +78,10 @@ impl<D: Domain> Held<D> {
             Some(reference) => reference,
             None => panic!(rt; "no local reference"),
         }
+    }
+
+    pub(crate) fn keep_local<R: Abort>(&mut self, rt: &R, reference: LocalRef<D>) {
+        put(rt, &mut self.local, reference);
     }
 
     /// Holds what a get returned, which is of this record.
@@ -152,7 +159,7 @@ pub(crate) fn by_reader<D: Domain, R: Abort>(
         Reader::Get(wanted) => got(rt, words, cpu, refs, record(rt, wanted)),
         Reader::Recall(slot, number) => {
             assert!(rt; usize::from(slot) < MOST_SLOTS && slot < words.settings().slots);
-            Answer::Is(recall_on(words, &mut cpu.plain, slot, number))
+            Answer::Is(recall_word(words, &mut cpu.plain, slot) == number)
         }
         Reader::Ended => Answer::Number(cpu.plain.ended),
         Reader::Count => kept(rt, &mut refs.local, acquire_local(words, cpu)),
@@ -197,8 +204,8 @@ fn found_inside<D: Domain, R: Abort>(rt: &R, words: &Words, cpu: &mut Cpu<D>, re
     requires words { AreWordsOf words.now D.table D.settings }
 {
     assert!(rt; cpu.inside());
-    match find_inside(words, cpu, rec.kind, &rec.name) {
-        Some(entry) => at(rt, entry, rec),
+    match find_inside_on(words, &mut cpu.plain, rec.kind, rec.name) {
+        Some(seen) => at(rt, entry_of(seen, rec), rec),
         None => Answer::Nothing,
     }
 }
@@ -223,7 +230,25 @@ fn look_up<D: Domain, R: Abort>(
     requires words { AreWordsOf words.now D.table D.settings }
 {
     assert!(rt; may_begin_on(words, &cpu.plain));
-    find_remembered(words, cpu, rec.kind, &rec.name)
+    match find_by_memory(words, &mut cpu.plain, rec.kind, rec.name) {
+        Some(seen) => Some(entry_of(seen, rec)),
+        None => None,
+    }
+}
+
+/// The entry of these words, with the record's kind and name.
+fn entry_of(seen: Seen, rec: Record) -> Entry
+    requires { seen.slot < MOST_SLOTS }
+{
+    Entry {
+        number: seen.number,
+        slot: seen.slot as u8,
+        rec: Record {
+            kind: rec.kind,
+            name: rec.name,
+            value: seen.value,
+        },
+    }
 }
 
 /// The CPU gets a passive reference to the entry with the record's kind and name.
@@ -251,9 +276,8 @@ fn get<D: Domain, R: Abort>(
     requires words { AreWordsOf words.now D.table D.settings }
 {
     for _ in 0..100 {
-        let got = get_remembered(words, cpu, rec.kind, &rec.name);
-        if let Some(answer) = got {
-            return Ok(answer);
+        if let Some((seen, psref)) = get_by_memory(words, &mut cpu.plain, rec.kind, rec.name) {
+            return Ok((entry_of(seen, rec), psref));
         }
         if look_up(rt, words, cpu, rec).is_none() {
             return Err(Refusal::NotFound);

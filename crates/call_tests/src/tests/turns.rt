@@ -154,6 +154,26 @@ fn a_wait_goes_on(rt: HostRuntime) {
     run_rows(&rt, rt.alloc(), LONG);
 }
 
+/// How often destroys of one turn are repeated while a section ends.
+const TRIES: u32 = 30;
+
+/// Destroys of one turn each, until one frees the entry: none before frees it, and says that it is still held.
+const ONE_TURN: &[Row] = &[Row {
+    name: "destroys of one turn",
+    slots: 2,
+    steps: RETIRED,
+    first: First::Insist(Destroy(2, 1)),
+    other: Other::ChangeSection(false),
+    answers: (Number(1), Nothing, Refused(Refusal::NotRetired)),
+}];
+
+#[test]
+fn a_destroy_makes_no_turn_more(rt: HostRuntime) {
+    for _ in 0..TRIES {
+        run_rows(&rt, rt.alloc(), ONE_TURN);
+    }
+}
+
 /// CPU 1 enters a section on its own thread, and sets a flag that no note goes with. CPU 0 sees the flag and performs: the section was open as
 /// that call began, so it is waited for.
 const FLAGS: &[Row] = &[Row {
@@ -337,7 +357,9 @@ fn insist<D: Domain, R: Wait + Abort>(
 
 /// Whether the entry still has its slot.
 fn is_in_vain(answer: Answer) -> bool {
-    answer == Refused(Refusal::NoSlot) || answer == Come(Stage::Grace(1))
+    answer == Refused(Refusal::NoSlot)
+        || answer == Refused(Refusal::StillHeld(Stage::Grace(1)))
+        || answer == Come(Stage::Grace(1))
 }
 
 /// Waits until the flag is set, and a while longer; then the CPU ends its section and begins another one.

@@ -36,6 +36,25 @@ pub(super) const WM0_IFACE: Rec = Rec {
     ..WM0
 };
 
+/// Drivers that follow one another in the list.
+pub(super) const THIRD: Rec = Rec {
+    text: b"wm2",
+    value: 12,
+    ..WM
+};
+
+pub(super) const SECOND: Rec = Rec {
+    text: b"wm1",
+    value: 11,
+    ..WM
+};
+
+pub(super) const FIRST: Rec = Rec {
+    text: b"wm0",
+    value: 10,
+    ..WM
+};
+
 /// CPU 0's passive reference to entry 1.
 pub(super) const A: CorePsref = CorePsref { cpu: 0, number: 1 };
 

@@ -1,30 +1,11 @@
 //! Worked rows, event by event: a search over a frozen link, marks that come in their order, and a collection that overtakes a release.
 
-use super::bench::{Ask, Line, Rec, Row, Told, run, run_rows};
-use super::data::{ATTACH_WM, ENTER, EXIT, FIND_WM, USUAL, WM};
+use super::bench::{Ask, Line, Row, Told, run, run_rows};
+use super::data::{ATTACH_WM, ENTER, EXIT, FIND_WM, FIRST, SECOND, THIRD, USUAL, WM};
 use passive_core::{
     BIAS, Core, Counted, Event, Mark, RecordOf, Refusal, Reply, Settings, Stage, run_events,
 };
 use std::test::Fail;
-
-/// Drivers that follow one another in the list.
-const THIRD: Rec = Rec {
-    text: b"wm2",
-    value: 12,
-    ..WM
-};
-
-const SECOND: Rec = Rec {
-    text: b"wm1",
-    value: 11,
-    ..WM
-};
-
-const FIRST: Rec = Rec {
-    text: b"wm0",
-    value: 10,
-    ..WM
-};
 
 /// CPU 0's loads, by its search.
 const LINK: Ask = Ask::Step(Event::LoadLink(0));

@@ -169,6 +169,19 @@ const STORES: &[Line] = &[
     (0, Ask::Step(Event::StoreNext(3, 3)), Ok(Told::Done)),
 ];
 
+/// The stores for a driver that is to take the place of slot 0's.
+const STORES_FOR_WM0: &[Line] = &[
+    (0, Ask::Step(Event::StoreSlot(3, 0, 5)), Ok(Told::Done)),
+    (0, Ask::Step(Event::StoreSlot(3, 1, 2)), Ok(Told::Done)),
+    (
+        0,
+        Ask::Step(Event::StoreSlot(3, 2, 0x776d_3000_0000_0000)),
+        Ok(Told::Done),
+    ),
+    (0, Ask::Step(Event::StoreSlot(3, 5, BIAS)), Ok(Told::Done)),
+    (0, Ask::Step(Event::StoreSlot(3, 6, BIAS)), Ok(Told::Done)),
+];
+
 /// Calls that grow something: a name, the lines after those of the stock, and the line that may be refused memory.
 const GROWING: &[(&str, &[Line], Line)] = &[
     (
@@ -180,6 +193,11 @@ const GROWING: &[(&str, &[Line], Line)] = &[
         "step_unpublish",
         &[],
         (0, Ask::Step(Event::Unpublish(0)), Ok(Told::Done)),
+    ),
+    (
+        "step_republish",
+        STORES_FOR_WM0,
+        (0, Ask::Step(Event::Republish(3, 0)), Ok(Told::Done)),
     ),
     (
         "step_split_ref",

@@ -8,5 +8,6 @@ mod event_rows;
 mod give;
 mod memory_tests;
 mod recall_rows;
+mod replace_rows;
 mod try_rows;
 mod values;

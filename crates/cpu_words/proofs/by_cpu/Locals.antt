@@ -11,12 +11,12 @@ use mathlib.Core.Option.{some}
 use lib.ListN.{get_elem?}
 use prog.Atomic.{either}
 use Rattle.atomic_table.specs.Table.{State as Table, keeps, stepped}
-use Rattle.cpu_words.specs.Types.{Settings, MOST_CPUS, Entry, Change, Attach, Vacant, Live, Retired, Mark, Hand, Empty, LocalPlace, MOST_COUNT, CountAdd, CountDown, Reply, Word, Collected, Taking, Giving, Back, Free, Lifted}
+use Rattle.cpu_words.specs.Types.{Settings, MOST_CPUS, Entry, Change, Vacant, Live, Retired, Mark, Hand, Empty, LocalPlace, MOST_COUNT, CountAdd, CountDown, Reply, Word, Collected, Taking, Giving, Back, Free, Lifted}
 use Rattle.registry_values.specs.Common.{bias, no_mark, slot_at, slot_of}
 use Rattle.registry_values.proofs.Fit.{ranges}
 use Rattle.protocol.specs.Common.{IsAttached, State, with_cell, mark_at, count_at, total_at, IsIn, IsCounting, subtraction_due_at, addition_due_at, is_adding_at, found_at, hand_at, step}
 use Rattle.protocol.proofs.Cells.{get_or_all, row_here, row_other, cell_here, cell_other, slot_number}
-use Rattle.protocol.proofs.History.{at_within, one_entry}
+use Rattle.protocol.proofs.History.{one_entry, attached_within}
 use Rattle.protocol.proofs.Occupied.{not_vacant, one_in, one_number, attached_in, in_within}
 use Rattle.protocol.proofs.counts.Bounds.{giving_within}
 use Rattle.protocol.proofs.counts.Counts.{counting_cases, is_counting}
@@ -166,7 +166,7 @@ there_on g x e t good had here u some_one = dite (ℕ_discrete u t)
 -- the CPU has met an entry in its own slot alone
 pub met_alone : (g : State) (x : CpuView) (e : Entry) → CpuShown g x → IsAttached g.history e → IsMetAlone x e.slot e.number
 met_alone g x e had attached u same =
-    let begun : 0 < e.number = (at_within g.history e.number (Attach e) attached).0 in
+    let begun : 0 < e.number = (attached_within g.history e attached).0 in
     let f = had.there u (λ none. absurd (omega arith)) in
     sym f.3 ∙ ap (λ (o : Entry). o.slot) (one_entry g.history f.0 e f.1 attached (f.2 ∙ same))
 
@@ -182,7 +182,7 @@ shown_count g x e t w v h locals k acquired released good had here lt count same
     let in_rows : t < length g.nets = omega arith in
     let row : length (get_or g.nets t []) ≡ MOST_CPUS = good.holds.shape.net_rows t in_rows in
     let in_row : x.id < length (get_or g.nets t []) = omega arith in
-    let number : e.number ≤ length g.history = (at_within g.history e.number (Attach e) (attached_in g.history g.slots t e good.holds.slots here).0).1 in record {
+    let number : e.number ≤ length g.history = (attached_within g.history e (attached_in g.history g.slots t e good.holds.slots here).0).1 in record {
       seated = had.seated;
       is = refl;
       hand = subst (λ j. SameHand j k) (sym (get_or-set_same g.hands x.id h Empty seen.in_hands)) same;

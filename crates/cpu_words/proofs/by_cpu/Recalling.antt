@@ -10,7 +10,7 @@ use Rattle.atomic_table.specs.Table.{State as Table, keeps, stepped}
 use Rattle.cpu_words.specs.Types.{Entry, Change, Settings, Event, Recall, RecallHead, Refind, Word}
 use Rattle.protocol.specs.Common.{IsAttached, IsLiveAt, IsNewestAt, State, guard, some_outcome, after_refind, after_seeing, is_honest, is_inside, live_at, may_recall, may_recall_head, may_refind, refind, found_at, seen_at, search_at, step}
 use Rattle.registry_values.specs.Common.{slot_at}
-use Rattle.protocol.proofs.History.{at_within, one_entry}
+use Rattle.protocol.proofs.History.{one_entry, attached_within}
 use Rattle.protocol.proofs.keeps.CountKeeps.{live_tells}
 use Rattle.protocol.proofs.runs.Fresh.{head_newest, honest_tells, live_is}
 use Rattle.protocol.proofs.Occupied.{in_within}
@@ -27,7 +27,7 @@ honest_in z s r = let k = r.shows.each.keeper in (r.shows.fits 0 (Keeper k.0) k.
 pub live_number : (g : State) (t n : ℕ) → Good g → is_honest n (slot_at g.slots t) ≡ true → IsLiveNumber g.history t n
 live_number g t n good honest = record {
   only = λ e attached number.
-      let some_one : 0 < n = let within = at_within g.history e.number _ attached in omega (arith, within.0, number) in
+      let some_one : 0 < n = let within = attached_within g.history e attached in omega (arith, within.0, number) in
       live_is g t n e good.holds (honest_tells n (slot_at g.slots t) some_one honest) attached number;
   one = λ some.
       let is = live_tells n (slot_at g.slots t) (honest_tells n (slot_at g.slots t) (omega (arith, some)) honest) in
@@ -127,7 +127,7 @@ recall_head_at z x idle s r i at fits =
     let made : step g (RecallHead x.id) ≡ Some (record { state = with_lists g (seeing_lists g x.id g.found); reply = Word m }) =
     ap (λ (b : Bool). guard b (some_outcome (after_seeing g x.id) (Word g.head))) test ∙ (λ k. Some (record { state = with_lists g (seeing_lists g x.id g.found); reply = Word (sym found k) })) in
     let saw = sees z s r i x (index z head_word) m (RecallHead x.id) g.found x.found at refl refl made (λ d ne. refl) (sym seen.found) (found_there g x r.good had) in
-    let leads : IsNewestAt g.history m = subst (IsNewestAt g.history) (sym found) (head_newest g.history g.head r.good.holds.list.first) in
+    let leads : IsNewestAt g.history m = subst (IsNewestAt g.history) (sym found) (head_newest g.history g.head r.good.holds.legal r.good.holds.list.first) in
     let few : m ≤ x.settings.slots = subst (λ (a : Settings). m ≤ a.slots) (sym seen.settings) (newest_few g m r.good leads) in
     (Cpu saw.view, saw.goes_on, (refl, (saw.makes, (record { is = (saw.longer, saw.is); newest = (subst (λ (p : List Change). IsNewestAt p m) (sym saw.history) leads); few = few }, saw.whole))))
 

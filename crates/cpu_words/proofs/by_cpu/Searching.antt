@@ -8,18 +8,18 @@ use mathlib.Core.Option.{some}
 use mathlib.Core.List.{IsPrefix}
 use lib.ListN.{get_elem?}
 use Rattle.atomic_table.specs.Table.{State as Table, keeps, stepped}
-use Rattle.cpu_words.specs.Types.{Name, Kind, Entry, Change, Detach, Settings, Seek, LoadLink, LoadRecord, Compared, Reply, Done, Word, Key, SearchPlace, AtHead, AtNext, AtNumber, AtKind, AtHigh, AtLow, AtValue, RecordWords, Search, Loaded, On, Over, Live, Retired}
+use Rattle.cpu_words.specs.Types.{Name, Kind, Entry, Change, Settings, Seek, LoadLink, LoadRecord, Compared, Reply, Done, Word, Key, SearchPlace, AtHead, AtNext, AtNumber, AtKind, AtHigh, AtLow, AtValue, RecordWords, Search, Loaded, On, Over, Live, Retired}
 use Rattle.protocol.specs.declared.event.RecordOf.TheVariants.{Search as OfSearch}
-use Rattle.protocol.specs.Common.{IsAttached, EndsAt, IsLiveAt, IsLawful, State, begin_at, seen_at, search_at, found_at, row_at, step, some_outcome, with_some, compared_slot, load_link, link_loaded, load_searched, outcome_of, word, words_of, loaded_at, loaded_of_name, entry_with, row_of_place, SlotWithin, StandsOn, Leads, To_end, To_entry, Holds, PlaceHolds}
-use Rattle.protocol.specs.History.{change_at}
+use Rattle.protocol.specs.Common.{IsAttached, EndsAt, IsLiveAt, IsLawful, State, begin_at, seen_at, search_at, found_at, row_at, step, some_outcome, with_some, compared_slot, load_link, link_loaded, load_searched, outcome_of, word, words_of, loaded_at, loaded_of_name, entry_with, row_of_place, SlotWithin, StandsOn, Leads, To_end, To_entry, Holds, PlaceHolds, ended_by}
+use Rattle.protocol.specs.History.{change_at, rank_at}
 use Rattle.registry_values.specs.Common.{are_words_of, slot_at}
 use Rattle.registry_values.proofs.Fit.{ranges}
 use Rattle.protocol.proofs.counts.Bounds.{search_within}
-use Rattle.protocol.proofs.History.{at_within, at_prefix}
+use Rattle.protocol.proofs.History.{Stood, ended_within, at_prefix, rank_low, stood}
 use Rattle.protocol.proofs.keeps.SearchKeeps.{IsAnswer, AnswersLookup, record_answers}
 use Rattle.protocol.proofs.Cells.{one_in}
 use Rattle.protocol.proofs.keeps.Searching.{Walks, stands_in, words_stand, search_walks, LinkTells, link_tells, head_ahead, at_next_ahead}
-use Rattle.cpu_words.specs.Common.{CpuView, View, Cpu, Spot, section_of, passive_of, count_of, head_word, next_of, record_of, word_at, index, cpu_view, cpu_of, depth_of, CpuShown, Agrees, Good, Ruled, GoesOn, did, Makes, CpuMay, sought, MaySeek, key_with, search_for, cpu_after_seek, search_with_place, MayLoadLink, link_answer, cpu_after_link, LinkHolds, MayStandOn, Descends, SkipsNone, PassTells, HasFollowed, HasLoadedLink, HasSought, IsAtWord, MayLoadSearched, every_word, loaded_of, loaded_answer, cpu_after_record_word, FoundHolds, HasSearched, HasLoadedWord, tells_compared}
+use Rattle.cpu_words.specs.Common.{CpuView, View, Cpu, Spot, section_of, passive_of, count_of, head_word, next_of, record_of, word_at, index, cpu_view, cpu_of, depth_of, CpuShown, Agrees, Good, Ruled, GoesOn, did, Makes, CpuMay, sought, MaySeek, key_with, search_for, cpu_after_seek, search_with_place, MayLoadLink, link_answer, cpu_after_link, LinkHolds, MayStandOn, Descends, SkipsNone, KeepsPlace, PassTells, HasFollowed, HasLoadedLink, HasSought, IsAtWord, MayLoadSearched, every_word, loaded_of, loaded_answer, cpu_after_record_word, FoundHolds, HasSearched, HasLoadedWord, tells_compared}
 use Rattle.cpu_words.proofs.shown.Showing.{goes_both, at_same}
 use Rattle.cpu_words.proofs.shown.Placing.{agrees_same}
 use Rattle.cpu_words.proofs.shown.Seeing.{attached_take, attached_prefix, taken_is_prefix, prefix_longer, take_whole, seen_of, idle_of}
@@ -40,12 +40,12 @@ loaded_words z words g l i m found agrees section passive counts =
 -- Where a search is, by the pass and by the history
 
 ends_prefix : (p h : List Change) (n k : ℕ) → IsPrefix p h → EndsAt p n k → EndsAt h n k
-ends_prefix p h n k pre ends = ap (λ l. change_at l k) (sym pre.1) ∙ at_prefix p pre.0 k (at_within p k (Detach n) ends).1 ∙ ends
+ends_prefix p h n k pre ends = ap (λ l. ended_by (change_at l k)) (sym pre.1) ∙ ap ended_by (at_prefix p pre.0 k (ended_within p n k ends).1) ∙ ends
 
 ends_take : (h : List Change) (to n k : ℕ) → to ≤ length h → EndsAt h n k → k ≤ to → EndsAt (take to h) n k
 ends_take h to n k within ends le =
     let size : length (take to h) ≡ to = length-take-le to h within in
-    sym (at_prefix (take to h) (drop to h) k (omega arith)) ∙ ap (λ l. change_at l k) (take-append-drop to h) ∙ ends
+    ap ended_by (sym (at_prefix (take to h) (drop to h) k (omega arith))) ∙ ap (λ l. ended_by (change_at l k)) (take-append-drop to h) ∙ ends
 
 stands_by_pass : (h : List Change) (to t : ℕ) (q : Search) (e : Entry) → to ≤ length h → StandsOn h q.start to t e → MayStandOn (take to h) q t e
 stands_by_pass h to t q e within stands =
@@ -74,14 +74,16 @@ one_stands g c from to after t e f on walk here there =
     ap (λ (d : Entry). d.number) (one_in e f (slot_at g.slots t) (stands_in g c from to t e on walk here) (stands_in g c from after t f on walk there))
 
 descends : (g : State) (c n m s : ℕ) (q : Search) (p r : List Change) → Holds g → Walks g c q.start → r ≡ g.history → LinkTells g q.start q.key n m
-    → ((e : Entry) → MayStandOn p q s e → n ≤ e.number) → Descends p q s m r
+    → ((e : Entry) → MayStandOn p q s e → n ≤ rank_at r e.number) → Descends p q s m r
 descends g c n zero s q p r on walk whole tells above = tt
 descends g c n (suc t) s q p r on walk whole tells above = λ e f old new.
-    omega (arith, one_stands g c q.start (length g.history) (length g.history) t tells.0 f on walk tells.1 (subst (λ h. MayStandOn h q t f) whole new), tells.3, above e old)
+    let one : f.number ≡ tells.0.number = one_stands g c q.start (length g.history) (length g.history) t tells.0 f on walk tells.1 (subst (λ h. MayStandOn h q t f) whole new) in
+    let rank : rank_at r f.number ≡ rank_at g.history tells.0.number = ap (rank_at r) one ∙ ap (λ (h : List Change). rank_at h tells.0.number) whole in
+    omega (arith, rank, tells.3, above e old)
 
 -- What a link leads past
 
--- the link x led, at some point from `from` on, to the greatest number below n that was live then
+-- the link x led, at some point from `from` on, to the greatest rank below n that was live then
 pub record LeadsSince (h : List Change) (from n x : ℕ) : Type 0 where
   pub point : ℕ
   pub from_on : from ≤ point
@@ -89,7 +91,7 @@ pub record LeadsSince (h : List Change) (from n x : ℕ) : Type 0 where
   pub leads : Leads h point n x
 
 -- so does the link of the entry on which a walk stands, a live one or a retired one
-next_leads : (g : State) (c from to t : ℕ) (e : Entry) → Holds g → Walks g c from → StandsOn g.history from to t e → LeadsSince g.history from e.number (get_or g.next t 0)
+next_leads : (g : State) (c from to t : ℕ) (e : Entry) → Holds g → Walks g c from → StandsOn g.history from to t e → LeadsSince g.history from (rank_at g.history e.number) (get_or g.next t 0)
 next_leads g c from to t e on walk stands = ⊎_elim
     (λ (live : slot_at g.slots t ≡ Live e). record { point = length g.history; from_on = walk.by_now; up_to = omega arith; leads = on.list.links t e live })
     (λ (gone : slot_at g.slots t ≡ Retired e).
@@ -97,26 +99,31 @@ next_leads g c from to t e on walk stands = ⊎_elim
     let past : from < end.0 = stands.unended end.0 end.1 in record {
       point = end.0;
       from_on = omega (arith, past);
-      up_to = (at_within g.history end.0 (Detach e.number) end.1).1;
+      up_to = (ended_within g.history e.number end.0 end.1).1;
       leads = on.frozen_links t end.0 c walk.begin e gone end.1 walk.open_since (omega (arith, past, walk.since));
     })
     (stands_in g c from to t e on walk stands)
 
-live_between : (h : List Change) (from k : ℕ) (f : Entry) → from ≤ k → k ≤ length h → IsLiveAt h from f → IsLiveAt h (length h) f → IsLiveAt h k f
-live_between h from k f low high first last = record { attached = first.attached; begun = omega (arith, first.begun); unended = λ p ends. omega (arith, last.unended p ends) }
-
 skips_none : (g : State) (c from n m : ℕ) → Holds g → Walks g c from → LeadsSince g.history from n m → SkipsNone g.history from n m
 skips_none g c from n m on walk since = by_leads m since.leads
   where
+    -- what stood in the place at the point where the link leads
+    stood_then : (f : Entry) (kept : KeepsPlace g.history from f) → Stood g.history since.point kept.now
+    stood_then f kept =
+        stood g.history on.legal (length g.history) since.point kept.now kept.stays (omega (arith, kept.rank, rank_low g.history on.legal f.number, kept.live.begun, since.from_on)) since.up_to
+
     by_leads : (m : ℕ) → Leads g.history since.point n m → SkipsNone g.history from n m
-    by_leads _ (To_end none) = λ f first last lt. none f (live_between g.history from since.point f since.from_on since.up_to first last) lt
-    by_leads _ (To_entry i live lt most) = λ e f stands first last below.
+    by_leads _ (To_end none) = λ f kept lt. let s = stood_then f kept in none s.entry s.live (omega (arith, s.rank, kept.rank, lt))
+    by_leads _ (To_entry i live lt most) = λ e f stands kept below.
+        let s = stood_then f kept in
         let there : StandsOn g.history from (length g.history) i.slot i =
         record { attached = live.attached; at = refl; begun = omega (arith, live.begun, since.up_to); unended = λ p ends. omega (arith, live.unended p ends, since.from_on) } in
         omega (
           arith,
-          one_stands g c from (length g.history) (length g.history) i.slot i e on walk there stands,
-          most f (live_between g.history from since.point f since.from_on since.up_to first last) below,
+          ap (rank_at g.history) (one_stands g c from (length g.history) (length g.history) i.slot i e on walk there stands),
+          most s.entry s.live (omega (arith, s.rank, kept.rank, below)),
+          s.rank,
+          kept.rank,
         )
 
 pass_tells : (g : State) (c from : ℕ) → Holds g → Walks g c from → PassTells (begin_at g c) from g.history
@@ -171,7 +178,7 @@ link_holds g q n (suc t) p good is tells = (omega (arith, tells.4, good.holds.sh
 -- the search q of x loads the link m, which is at its place
 pub follows : (z : Settings) (s : Table ℕ View) (r : Ruled z s) (i : ℕ) (x : CpuView) (spot m n : ℕ) (q : Search) → get_elem? s.views i ≡ some (Cpu x) → x.search ≡ Some q
     → slice_index s.words spot ≡ m → load_link r.g x.id q q.place ≡ link_loaded r.g x.id q m → LinkTells r.g q.start q.key n m
-    → LeadsSince r.g.history q.start n m → (q.place ≡ AtHead → n ≡ suc (length r.g.history)) → ((t : ℕ) (e : Entry) → q.place ≡ AtNext t → MayStandOn x.pass q t e → e.number ≡ n)
+    → LeadsSince r.g.history q.start n m → (q.place ≡ AtHead → n ≡ suc (length r.g.history)) → ((t : ℕ) (e : Entry) → q.place ≡ AtNext t → MayStandOn x.pass q t e → rank_at r.g.history e.number ≡ n)
     → (y : CpuView) × GoesOn z s r (did (LoadLink x.id) (link_answer m)) (stepped s spot m i [] (Cpu y) keeps) × Makes (LoadLink x.id) (link_answer m) (Cpu x) (Cpu y) × HasFollowed x q m y
 follows z s r i x spot m n q at under found link tells leads at_head above =
     let g = r.g in
@@ -209,10 +216,10 @@ follows z s r i x spot m n q at under found link tells leads at_head above =
         pass = longer;
         is = change;
         holds = subst (λ (a : Settings). LinkHolds a q m y.pass) (sym seen.settings) (link_holds g q n m y.pass r.good passes tells);
-        descends = λ t place. descends g x.id n m t q x.pass y.pass r.good.holds walk passes tells (λ e stands. omega (arith, above t e place stands));
+        descends = λ t place. descends g x.id n m t q x.pass y.pass r.good.holds walk passes tells (λ e stands. omega (arith, above t e place stands, ap (λ (h : List Change). rank_at h e.number) passes));
         tells = told;
         first = λ place. subst (λ k. SkipsNone y.pass q.start k m) (at_head place ∙ ap suc (sym size)) skips;
-        next = λ t e place stands. subst (λ k. SkipsNone y.pass q.start k m) (sym (above t e place stands)) skips;
+        next = λ t e place stands. subst (λ k. SkipsNone y.pass q.start k m) (sym (above t e place stands) ∙ ap (λ (h : List Change). rank_at h e.number) (sym passes)) skips;
       },
     )
 
@@ -230,20 +237,21 @@ load_link_may z x c t id may = rw (← id)
     let searching : search_at g x.id ≡ Some q = sym seen.search ∙ may.under_way in
     let walk : Walks g x.id q.start = search_walks g x.id q on searching in
     let stands = subst (PlaceHolds g.history q.start (seen_at g x.id) q.key) may.place (on.searches x.id q searching).stands in
-    let ahead = at_next_ahead g x.id q.start (seen_at g x.id) t q.key on walk seen.within stands in
+    let rank : ℕ = rank_at g.history stands.0.number in
+    let ahead = at_next_ahead g x.id q.start (seen_at g x.id) t q.key on walk (on.searches x.id q searching).started seen.within stands in
     let found : slice_index s.words (index z (next_of t)) ≡ get_or g.next t 0 = r.words.at (next_of t) (omega (arith, ahead.0, on.shape.links)) in
-    let tells = link_tells g x.id q.start stands.0.number (get_or g.next t 0) q.key on walk ahead.1 in
+    let tells = link_tells g x.id q.start rank (get_or g.next t 0) q.key on walk ahead.1 in
     let link : load_link g x.id q q.place ≡ link_loaded g x.id q (slice_index s.words (index z (next_of t))) = ap (load_link g x.id q) may.place ∙ ap (link_loaded g x.id q) (sym found) in
     let leads = next_leads g x.id q.start (seen_at g x.id) t stands.0 on walk stands.1 in
-    let at_head : q.place ≡ AtHead → stands.0.number ≡ suc (length g.history) = λ place. absurd (let wrong : AtHead ≡ AtNext t = sym place ∙ may.place in cc) in
-    let above : (u : ℕ) (e : Entry) → q.place ≡ AtNext u → MayStandOn x.pass q u e → e.number ≡ stands.0.number = λ u e place on_e.
+    let at_head : q.place ≡ AtHead → rank ≡ suc (length g.history) = λ place. absurd (let wrong : AtHead ≡ AtNext t = sym place ∙ may.place in cc) in
+    let above : (u : ℕ) (e : Entry) → q.place ≡ AtNext u → MayStandOn x.pass q u e → rank_at g.history e.number ≡ rank = λ u e place on_e.
     let by_pass : MayStandOn (take (seen_at g x.id) g.history) q t e =
     subst (λ (v : ℕ). MayStandOn (take (seen_at g x.id) g.history) q v e) (same_next u t (sym place ∙ may.place)) (subst (λ (p : List Change). MayStandOn p q u e) seen.pass on_e) in
     let by_history = stands_by_history g.history (seen_at g x.id) t q e seen.within (on.searches x.id q searching).started by_pass in
-    one_stands g x.id q.start (seen_at g x.id) (seen_at g x.id) t stands.0 e on walk stands.1 by_history in
+    ap (rank_at g.history) (one_stands g x.id q.start (seen_at g x.id) (seen_at g x.id) t stands.0 e on walk stands.1 by_history) in
     told z s r i x (index z (next_of t)) (slice_index s.words (index z (next_of t))) q may.under_way
-    (follows z s r i x (index z (next_of t)) (slice_index s.words (index z (next_of t))) stands.0.number q at may.under_way (refl {a = slice_index s.words (index z (next_of t))}) link
-    (subst (LinkTells g q.start q.key stands.0.number) (sym found) tells) (subst (LeadsSince g.history q.start stands.0.number) (sym found) leads) at_head above))
+    (follows z s r i x (index z (next_of t)) (slice_index s.words (index z (next_of t))) rank q at may.under_way (refl {a = slice_index s.words (index z (next_of t))}) link
+    (subst (LinkTells g q.start q.key rank) (sym found) tells) (subst (LeadsSince g.history q.start rank) (sym found) leads) at_head above))
   where
     told : (z : Settings) (s : Table ℕ View) (r : Ruled z s) (i : ℕ) (x : CpuView) (spot m : ℕ) (q : Search) → x.search ≡ Some q
         → (y : CpuView) × GoesOn z s r (did (LoadLink x.id) (link_answer m)) (stepped s spot m i [] (Cpu y) keeps) × Makes (LoadLink x.id) (link_answer m) (Cpu x) (Cpu y) × HasFollowed x q m y

@@ -10,7 +10,7 @@ use Rattle.atomic_table.specs.Table.{State as Table, keeps, stepped}
 use Rattle.cpu_words.specs.Types.{MOST_COUNT, MOST_SECTIONS, Entry, Change, Settings, Slot, Vacant, Live, Retired, Event, Try, Confirm, TakeBack, Recall, Word, Hand, Empty, Trying}
 use Rattle.registry_values.specs.Common.{are_fit, are_limits_fit, are_sizes_fit, is_within, slot_at}
 use Rattle.protocol.specs.Common.{IsAttached, IsLiveAt, State, with_cell, seen_at, search_at, found_at, passive_at, trying_of, step, guard, some_outcome, IsIn, Occupies, after_confirm, confirm, is_honest, has_live, live_at, may_confirm, take_back}
-use Rattle.protocol.proofs.History.{at_within, one_entry}
+use Rattle.protocol.proofs.History.{one_entry, attached_within}
 use Rattle.protocol.proofs.keeps.CountKeeps.{trying_tells}
 use Rattle.protocol.proofs.runs.Fresh.{honest_tells, live_is}
 use Rattle.protocol.proofs.Cells.{cell_other}
@@ -248,7 +248,7 @@ confirms z s r i x e idle trying attached inside at same =
     let seen = seen_of g x r.good had in
     let stands : m ≡ live_at g.lives t = r.words.at (live_of t) (subst (λ (a : Settings). t < a.slots) seen.settings inside) in
     let known : IsAttached g.history e = known_attached g x e seen attached in
-    let some_one : 0 < e.number = (at_within g.history e.number _ known).0 in
+    let some_one : 0 < e.number = (attached_within g.history e known).0 in
     let honest : is_honest e.number (slot_at g.slots t) ≡ true = ap (λ (k : ℕ). is_honest k (slot_at g.slots t)) (sym (sym stands ∙ same)) ∙ honest_in z s r t in
     let still : has_live e.number (slot_at g.slots t) ≡ true = honest_tells e.number (slot_at g.slots t) some_one honest in
     let live : IsLiveAt g.history (length g.history) e = (live_is g t e.number e r.good.holds still known refl).0 in

@@ -9,7 +9,9 @@ use Rattle.registry_values.specs.Common.{slot_at, slot_before, key_of, is_taken,
 use Rattle.registry_values.proofs.Fit.{ranges}
 use Rattle.protocol.specs.Common.{SlotsShow, ListShows, Leads, To_entry, after_change, State, row_at, count_at, total_at, kept_at, step, entry_of, is_bias, keeps_rightly, IsIn, at_rest, live_at, guard, some_outcome, unpublish, after_unpublish, with_link_past, with_retired}
 use Rattle.protocol.specs.Invariant.{To_end as No_entry}
-use Rattle.protocol.proofs.History.{one_entry, length-after_change}
+use Rattle.protocol.specs.History.{rank_at}
+use Rattle.protocol.specs.Common.{IsLegal}
+use Rattle.protocol.proofs.History.{one_rank, rank_low, length-after_change}
 use Rattle.protocol.proofs.keeps.Linking.{before_leads, head_leads, link_to}
 use Rattle.protocol.proofs.Cells.{cell_in_new, cell_in_old, get_or_all, place_put}
 use Rattle.protocol.proofs.Occupied.{slot_cases, in_other, in_published, not_vacant, in_unpublished, in_within, live_one}
@@ -22,45 +24,48 @@ use Rattle.cpu_words.proofs.by_keeper.Draining.{due_alike}
 
 -- What the live numbers of the keeper's view tell of the links: where they lead, and which of them leads to a slot.
 
--- two links that lead to the greatest live number below one number are the same
-pub one_link : (h : List Change) (slots : List Slot) (n x y : ℕ) → SlotsShow h slots → LeadsBelow slots n x → Leads h (length h) n y → x ≡ y
-one_link h slots n zero zero show (To_end none) (No_entry empty) = refl
-one_link h slots n zero _ show (To_end none) (To_entry e live lt most) = absurd (none e.slot e (show.placed e live) lt)
-one_link h slots n _ zero show (To_slot t f at lt most) (No_entry empty) = absurd (empty f (show.live t f at).0 lt)
-one_link h slots n _ _ show (To_slot t f at lt most) (To_entry e live low top) =
+-- two links that lead to the greatest live rank below one rank are the same
+pub one_link : (h : List Change) (slots : List Slot) (n x y : ℕ) → IsLegal h → SlotsShow h slots → LeadsBelow (rank_at h) slots n x → Leads h (length h) n y → x ≡ y
+one_link h slots n zero zero legal show (To_end none) (No_entry empty) = refl
+one_link h slots n zero _ legal show (To_end none) (To_entry e live lt most) = absurd (none e.slot e (show.placed e live) lt)
+one_link h slots n _ zero legal show (To_slot t f at lt most) (No_entry empty) = absurd (empty f (show.live t f at).0 lt)
+one_link h slots n _ _ legal show (To_slot t f at lt most) (To_entry e live low top) =
     let lf = show.live t f at in
-    ap suc (sym lf.1 ∙ ap (λ (i : Entry). i.slot) (one_entry h f e lf.0.attached live.attached (omega (arith, most e.slot e (show.placed e live) low, top f lf.0 lt))))
+    let a = most e.slot e (show.placed e live) low in
+    let b = top f lf.0 lt in
+    ap suc (sym lf.1 ∙ ap (λ (i : Entry). i.slot) (one_rank h legal (length h) f e lf.0 live (omega (arith, a, b))))
 
--- the one before a live entry is what the live numbers tell
-own_before : (h : List Change) (slots : List Slot) (head : ℕ) (next : List ℕ) (e : Entry) (p o : Option ℕ) → SlotsShow h slots → ListShows h slots head next → length next ≡ length slots
-    → slot_at slots e.slot ≡ Live e → IsBefore slots e.number p → slot_before slots next e.slot ≡ o → o ≡ p
-own_before h slots head next e None None show list size at before is = refl
-own_before h slots head next e None (Some r) show list size at before is =
+-- the one before a live entry is what the live ranks tell
+own_before : (h : List Change) (slots : List Slot) (head : ℕ) (next : List ℕ) (e : Entry) (p o : Option ℕ) → IsLegal h → SlotsShow h slots → ListShows h slots head next → length next ≡ length slots
+    → slot_at slots e.slot ≡ Live e → IsBefore (rank_at h) slots (rank_at h e.number) p → slot_before slots next e.slot ≡ o → o ≡ p
+own_before h slots head next e None None legal show list size at before is = refl
+own_before h slots head next e None (Some r) legal show list size at before is =
     let g = before_leads slots next e.slot r size is in
-    absurd (omega (arith, (link_to h slots e g.0.number (get_or next r 0) show at g.2 (list.links r g.0 g.1)).0, before r g.0 g.1))
-own_before h slots head next e (Some q) None show list size at before is =
+    absurd (omega (arith, (link_to h slots e (rank_at h g.0.number) (get_or next r 0) show at g.2 (list.links r g.0 g.1)).0, before r g.0 g.1))
+own_before h slots head next e (Some q) None legal show list size at before is =
     let f = before.0 in
     let lf = show.live q f before.1 in
-    absurd (omega (arith, (link_to h slots e (suc (length h)) head show at (head_leads h slots head next e show list size at is) list.first).1 f lf.0 (omega (arith, lf.0.begun)), before.2))
-own_before h slots head next e (Some q) (Some r) show list size at before is =
+    let top = link_to h slots e (suc (length h)) head show at (head_leads h slots head next e legal show list size at is) list.first in
+    absurd (omega (arith, top.1 f lf.0 (omega (arith, lf.0.begun, rank_low h legal f.number)), before.2))
+own_before h slots head next e (Some q) (Some r) legal show list size at before is =
     let f = before.0 in
     let lf = show.live q f before.1 in
     let g = before_leads slots next e.slot r size is in
     let lg = show.live r g.0 g.1 in
-    let top = link_to h slots e g.0.number (get_or next r 0) show at g.2 (list.links r g.0 g.1) in
-    let least : f.number ≤ g.0.number = before.3 r g.0 g.1 top.0 in
-    let most : g.0.number ≤ f.number = ⊎_elim
-    (λ (lt : f.number < g.0.number). absurd (omega (arith, top.1 f lf.0 lt, before.2)))
-    (λ (ge : g.0.number ≤ f.number). ge)
-    (cases_lt f.number g.0.number) in
-    ap Some (sym lg.1 ∙ ap (λ (i : Entry). i.slot) (one_entry h g.0 f lg.0.attached lf.0.attached (omega (arith, least, most))) ∙ lf.1)
+    let top = link_to h slots e (rank_at h g.0.number) (get_or next r 0) show at g.2 (list.links r g.0 g.1) in
+    let least : rank_at h f.number ≤ rank_at h g.0.number = before.3 r g.0 g.1 top.0 in
+    let most : rank_at h g.0.number ≤ rank_at h f.number = ⊎_elim
+    (λ (lt : rank_at h f.number < rank_at h g.0.number). absurd (omega (arith, top.1 f lf.0 lt, before.2)))
+    (λ (ge : rank_at h g.0.number ≤ rank_at h f.number). ge)
+    (cases_lt (rank_at h f.number) (rank_at h g.0.number)) in
+    ap Some (sym lg.1 ∙ ap (λ (i : Entry). i.slot) (one_rank h legal (length h) g.0 f lg.0 lf.0 (omega (arith, least, most))) ∙ lf.1)
 
 -- the same of the entry in the slot t
-pub slot_before_is : (h : List Change) (slots : List Slot) (head : ℕ) (next : List ℕ) (t : ℕ) (e : Entry) (p : Option ℕ) → SlotsShow h slots → ListShows h slots head next → length next ≡ length slots
-    → slot_at slots t ≡ Live e → IsBefore slots e.number p → slot_before slots next t ≡ p
-slot_before_is h slots head next t e p show list size at before =
+pub slot_before_is : (h : List Change) (slots : List Slot) (head : ℕ) (next : List ℕ) (t : ℕ) (e : Entry) (p : Option ℕ) → IsLegal h → SlotsShow h slots → ListShows h slots head next
+    → length next ≡ length slots → slot_at slots t ≡ Live e → IsBefore (rank_at h) slots (rank_at h e.number) p → slot_before slots next t ≡ p
+slot_before_is h slots head next t e p legal show list size at before =
     let own : e.slot ≡ t = (show.live t e at).1 in
-    subst (λ (u : ℕ). slot_at slots u ≡ Live e → slot_before slots next u ≡ p) own (λ here. own_before h slots head next e p (slot_before slots next e.slot) show list size here before refl) at
+    subst (λ (u : ℕ). slot_at slots u ≡ Live e → slot_before slots next u ≡ p) own (λ here. own_before h slots head next e p (slot_before slots next e.slot) legal show list size here before refl) at
 
 -- Publish on the words.
 
@@ -90,8 +95,8 @@ publishes g k t e good had may =
     let limit = ap (λ (a : Settings). a.change_limit) seen.settings in
     let slot : t < g.settings.slots = omega (arith, may.slot, ap (λ (a : Settings). a.slots) seen.settings) in
     let vacant : slot_at g.slots t ≡ Vacant = ap (λ (x : List Slot). slot_at x t) (sym seen.slots) ∙ may.vacant in
-    let below : LeadsBelow g.slots (suc (length g.history)) (get_or g.next t 0) =
-    subst (λ (v : KeeperView). LeadsBelow v.slots (suc (length v.history)) (get_or v.next t 0)) had.is may.link in
+    let below : LeadsBelow (rank_at g.history) g.slots (suc (length g.history)) (get_or g.next t 0) =
+    subst (λ (v : KeeperView). LeadsBelow (rank_at v.history) v.slots (suc (length v.history)) (get_or v.next t 0)) had.is may.link in
     record {
       rest = sym seen.due ∙ may.rest;
       slot = slot;
@@ -101,14 +106,14 @@ publishes g k t e good had may =
       number = may.number ∙ ap suc long;
       free = ap (is_taken (key_of e)) (sym seen.slots) ∙ may.free;
       room = omega (arith, may.room, long, ap live_count seen.slots, limit);
-      link = one_link g.history g.slots (suc (length g.history)) (get_or g.next t 0) g.head good.holds.slots below good.holds.list.first;
+      link = one_link g.history g.slots (suc (length g.history)) (get_or g.next t 0) g.head good.holds.legal good.holds.slots below good.holds.list.first;
       counts = λ c lt. had.counts c t vacant ∙ may.counts c (omega (arith, lt, ap (λ (a : Settings). a.cpus) seen.settings));
       total = ap (λ (x : List ℕ). total_at x t) (sym seen.totals) ∙ may.total;
       keeps = ap (λ (x : List (Option ℕ)). keeps_rightly (kept_at x t) e.rec.kind) (sym seen.keeps) ∙ may.keeps;
     }
 
 -- a row whose first words are the bias
-all_bias : (n : ℕ) (row : List ℕ) → ((c : ℕ) → c < n → get_or row c 0 ≡ bias) → list_all is_bias (take n row) ≡ true
+pub all_bias : (n : ℕ) (row : List ℕ) → ((c : ℕ) → c < n → get_or row c 0 ≡ bias) → list_all is_bias (take n row) ≡ true
 all_bias zero row each = refl
 all_bias (suc n) [] each = refl
 all_bias (suc n) (x ∷ row) each = and_from (is_bias x) (list_all is_bias (take n row)) (eq-eqb x bias (each 0 (omega arith))) (all_bias n row (λ c lt. each (suc c) (omega arith)))
@@ -218,9 +223,9 @@ pub record Unpublishes (g : State) (t : ℕ) (e : Entry) (p : Option ℕ) (v : �
   pub hidden : live_at g.lives t ≡ 0
 
 -- the slot before is live
-before_within : (slots : List Slot) (n : ℕ) (p : Option ℕ) → IsBefore slots n p → (q : ℕ) → p ≡ Some q → q < length slots
-before_within slots n None before q is = absurd (let a : ◌≡◌ {A = Option ℕ} None (Some q) = is in cc)
-before_within slots n (Some r) before q is = let a : r ≡ q = cc in subst (λ (u : ℕ). u < length slots) a (in_within slots r before.0 (inl before.1))
+pub before_within : (rank : ℕ → ℕ) (slots : List Slot) (n : ℕ) (p : Option ℕ) → IsBefore rank slots n p → (q : ℕ) → p ≡ Some q → q < length slots
+before_within rank slots n None before q is = absurd (let a : ◌≡◌ {A = Option ℕ} None (Some q) = is in cc)
+before_within rank slots n (Some r) before q is = let a : r ≡ q = cc in subst (λ (u : ℕ). u < length slots) a (in_within slots r before.0 (inl before.1))
 
 pub unpublishes : (g : State) (k : KeeperView) (t : ℕ) (p : Option ℕ) (v : ℕ) → Good g → KeeperShown g k → (may : MayUnpublish k t p v) → Unpublishes g t may.e p v
 unpublishes g k t p v good had may =
@@ -228,17 +233,18 @@ unpublishes g k t p v good had may =
     let shape = good.holds.shape in
     let e = may.e in
     let live : slot_at g.slots t ≡ Live e = ap (λ (x : List Slot). slot_at x t) (sym seen.slots) ∙ may.live in
-    let before : IsBefore g.slots e.number p = subst (λ (x : List Slot). IsBefore x e.number p) seen.slots may.before in
-    let below : LeadsBelow g.slots e.number v = subst (λ (x : List Slot). LeadsBelow x e.number v) seen.slots may.link in
+    let rank : ℕ = rank_at g.history e.number in
+    let before : IsBefore (rank_at g.history) g.slots rank p = subst (λ (w : KeeperView). IsBefore (rank_at w.history) w.slots (rank_at w.history e.number) p) had.is may.before in
+    let below : LeadsBelow (rank_at g.history) g.slots rank v = subst (λ (w : KeeperView). LeadsBelow (rank_at w.history) w.slots (rank_at w.history e.number) v) had.is may.link in
     let within : t < length g.slots = in_within g.slots t e (inl live) in
     record {
       rest = sym seen.due ∙ may.rest;
       live = live;
       within = within;
       in_marks = omega (arith, within, shape.slots, shape.marks);
-      place = λ q is. let lt = before_within g.slots e.number p before q is in omega (arith, lt, shape.slots);
-      before = slot_before_is g.history g.slots g.head g.next t e p good.holds.slots good.holds.list (shape.links ∙ sym shape.slots) live before;
-      link = sym (one_link g.history g.slots e.number v (get_or g.next t 0) good.holds.slots below (good.holds.list.links t e live));
+      place = λ q is. let lt = before_within (rank_at g.history) g.slots rank p before q is in omega (arith, lt, shape.slots);
+      before = slot_before_is g.history g.slots g.head g.next t e p good.holds.legal good.holds.slots good.holds.list (shape.links ∙ sym shape.slots) live before;
+      link = sym (one_link g.history g.slots rank v (get_or g.next t 0) good.holds.legal good.holds.slots below (good.holds.list.links t e live));
       hidden = ap (λ (x : List ℕ). live_at x t) (sym seen.lives) ∙ may.hidden;
     }
 
@@ -272,7 +278,7 @@ leaves_unlinked g t e p v may = record {
 }
 
 -- a row without marks has nothing collected
-none_collected : (f : Mark × ℕ → ℕ) → ((n : ℕ) → f (no_mark, n) ≡ 0) → (m : ℕ) (row : List ℕ) → sum_by f (zip (replicate m no_mark) row) ≡ 0
+pub none_collected : (f : Mark × ℕ → ℕ) → ((n : ℕ) → f (no_mark, n) ≡ 0) → (m : ℕ) (row : List ℕ) → sum_by f (zip (replicate m no_mark) row) ≡ 0
 none_collected f none zero row = refl
 none_collected f none (suc m) [] = refl
 none_collected f none (suc m) (n ∷ row) = omega (arith, sum_by-cons f (no_mark, n) (zip (replicate m no_mark) row), none n, none_collected f none m row)
@@ -328,7 +334,7 @@ link_words z words g t e (Some p) v good agrees may =
     (get_or-set_same g.next p v 0 (omega (arith, lt, good.holds.shape.links))) (elim [ next_of u ↦ λ _ off. get_or-set_other g.next p u v 0 (λ same. off (ap next_of same)) | _ ↦ λ _ _. refl ])
 
 -- one place is the link of one slot before
-one_place : (p q : Option ℕ) → link_index q ≡ link_index p → p ≡ q
+pub one_place : (p q : Option ℕ) → link_index q ≡ link_index p → p ≡ q
 one_place None None same = refl
 one_place None (Some q) same = absurd (omega arith)
 one_place (Some p) None same = absurd (omega arith)

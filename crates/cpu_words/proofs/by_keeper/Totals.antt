@@ -4,10 +4,10 @@ use Rattle.std.proofs.Math.Nat.{lt_of_not-le}
 use Rattle.std.proofs.lemmas.Bool.{cases_eq}
 use Rattle.std.specs.Prelude.{slice_index}
 use Rattle.atomic_table.specs.Table.{Joins as TableJoins}
-use Rattle.cpu_words.specs.Types.{Entry, Attach, Settings, Mark, Slot, Live, Retired, LocalPlace, Free, Standing, Rest, Adding, Subtracting, TotalAdd, TotalSub, JoinKeeper, Done, Due}
+use Rattle.cpu_words.specs.Types.{Entry, Settings, Mark, Slot, Live, Retired, LocalPlace, Free, Standing, Rest, Adding, Subtracting, TotalAdd, TotalSub, JoinKeeper, Done, Due}
 use Rattle.protocol.specs.Common.{State, mark_at, total_at, number_standing, step, total_add, total_sub, IsIn, one_if, subtraction_due_at, addition_due_at, is_adding_at}
 use Rattle.registry_values.specs.Common.{bias, no_mark, is_collected, is_some_collected, slot_at, slot_of}
-use Rattle.protocol.proofs.History.{at_within, one_entry}
+use Rattle.protocol.proofs.History.{one_entry, attached_within}
 use Rattle.protocol.proofs.Occupied.{attached_in, one_in, one_number, in_within}
 use Rattle.protocol.proofs.Cells.{total_here, total_other, slot_number, any_within}
 use Rattle.protocol.proofs.counts.Sums.{one_self, one_other, local_changed, standing_within}
@@ -135,7 +135,7 @@ none_due g t u e f retired live = one_other t u (λ same. let q : Live f ≡ Ret
 pub later_less : (g : State) (k : KeeperView) (t : ℕ) (e : Entry) → Good g → KeeperShown g k → IsIn e (slot_at g.slots t) → (n : ℕ) → length g.history < n
     → number_at (one_more k.given_up e.number) n ≡ 0
 later_less g k t e good had here n above = one_more_other k.given_up e.number n (λ same.
-    absurd (omega (arith, (at_within g.history e.number (Attach e) (attached_in g.history g.slots t e good.holds.slots here).0).1, above, same))) ∙ had.later n above
+    absurd (omega (arith, (attached_within g.history e (attached_in g.history g.slots t e good.holds.slots here).0).1, above, same))) ∙ had.later n above
 
 shown_subtracted : (g : State) (k : KeeperView) (t : ℕ) (e : Entry) → Good g → KeeperShown g k → slot_at g.slots t ≡ Retired e → g.due ≡ Subtracting t
     → KeeperShown (with_keeper g (totalling g t (total_at g.totals t - 1))) (keeper_view (with_keeper g (totalling g t (total_at g.totals t - 1))) k)

@@ -1,5 +1,5 @@
 -- Destroying: an entry whose slot the keeper made vacant is gone in any later state; drivers that are kept; and the end of a run.
-use Rattle.std.proofs.Common.{◌≡◌, inr, ⊎_elim, ℕ, true, IsTrue, List, [], ◌∷◌, ◌++◌, length, set, Option, Some, IsSome, refl, sym, ap, ◌∙◌, subst, append_assoc, length-append, arith, suc, ◌<◌}
+use Rattle.std.proofs.Common.{◌≡◌, inl, length-set, inr, ⊎_elim, ℕ, true, IsTrue, List, [], ◌∷◌, ◌++◌, length, set, Option, Some, IsSome, refl, sym, ap, ◌∙◌, subst, append_assoc, length-append, arith, suc, ◌<◌}
 use Rattle.std.proofs.lemmas.List.{append-nil}
 use Rattle.std.proofs.lemmas.Option.{none-some, same_Some}
 use mathlib.Core.List.{IsPrefix}
@@ -7,11 +7,11 @@ use lib.ListN.{get_elem?}
 use mathlib.Core.Option.{some}
 use Rattle.atomic_table.specs.Table.{State as Table}
 use Rattle.atomic_table.proofs.Lists.{at_map}
-use Rattle.cpu_words.specs.Types.{Entry, Change, Attach, Detach, Settings, Vacant, Retired, Event, Vacate, KeptSub, Reply, Live, Publish, Done}
+use Rattle.cpu_words.specs.Types.{Entry, Change, Settings, Vacant, Retired, Event, Vacate, KeptSub, Reply, Live, Publish, Republish, Done}
 use Rattle.registry_values.specs.Common.{are_fit, slot_at}
-use Rattle.protocol.specs.Common.{IsAttached, EndsAt, State, opening, Outcome, step, state_after, Holds, Occupies, IsUnheld, number_in, picture, after, occupant_of, destroyed_slot, kept_at, is_honest, live_at}
-use Rattle.protocol.proofs.Made.{Made, Vacates, SubsKept, made, Publishes}
-use Rattle.protocol.proofs.History.{one_entry, at_within, at_prefix}
+use Rattle.protocol.specs.Common.{IsAttached, EndsAt, State, opening, Outcome, step, state_after, Holds, Occupies, IsUnheld, number_in, picture, after, occupant_of, destroyed_slot, kept_at, is_honest, live_at, IsPublishing, ended_by}
+use Rattle.protocol.proofs.Made.{Made, Vacates, SubsKept, made, Publishes, Republishes}
+use Rattle.protocol.proofs.History.{one_entry, at_prefix, attached_within, ended_within}
 use Rattle.protocol.proofs.keeps.Keeping.{opening_holds, step_holds}
 use Rattle.protocol.proofs.keeps.MarkKeeps.{is_drained_tells}
 use Rattle.protocol.proofs.model.RefiningEntries.{number_of}
@@ -19,10 +19,12 @@ use Rattle.protocol.proofs.runs.Headline.{unheld_unoccupied, obeys_laws}
 use Rattle.protocol.proofs.runs.Reuse.{number_is, destroyed_drained}
 use Rattle.protocol.proofs.Occupied.{attached_in, in_within, slot_cases}
 use Rattle.protocol.proofs.keeps.ListKeeps.{may_publish_tells}
+use Rattle.protocol.proofs.keeps.Replacing.{may_republish_tells}
+use Rattle.protocol.proofs.keeps.Linking.{within_live}
 use Rattle.protocol.proofs.Cells.{slot_here}
 use Rattle.protocol.proofs.keeps.CountKeeps.{live_tells}
 use Rattle.protocol.proofs.runs.Fresh.{honest_tells}
-use Rattle.cpu_words.specs.Common.{LogItem, Logged, View, Good, ShowsViews, IsDetachedFrom, IsFreedFrom, part, without_logs, AreByOwn, RunsAsLogged, IsGone, FreedIsGone, FreedByKeeper, Sits, IsStanding, KeeperView, Keeper, log_item, changes_in, keeping, KeepsDriver, AttachedKeeps, Agrees, EndedRuns, IsGoneFrom, KeeperShown, Shown, live_of, KeepsAsLong, IsAttachedKeeping}
+use Rattle.cpu_words.specs.Common.{LogItem, Logged, View, Good, ShowsViews, IsDetachedFrom, IsFreedFrom, part, without_logs, AreByOwn, RunsAsLogged, IsGone, FreedIsGone, FreedByKeeper, Sits, IsStanding, KeeperView, Keeper, log_item, changes_in, keeping, KeepsDriver, AttachedKeeps, Agrees, EndedRuns, IsGoneFrom, KeeperShown, Shown, live_of, KeepsAsLong, IsAttachedKeeping, by_number}
 use Rattle.cpu_words.proofs.logs.Loads.{run_as_logged, is_whole, same_event, place, halve}
 use Rattle.cpu_words.proofs.shown.Seeing.{attached_prefix, prefix_both}
 use Rattle.cpu_words.proofs.shown.Showing.{backed}
@@ -103,7 +105,7 @@ since_freed cpus log m d more (e ∷ es) g t k run on known gone of =
     let holds : Holds o.state = step_holds m o.state e o.reply on run.1 in
     let grows = (obeys_laws m on).answers.history e in
     let size = ap (λ (h : List Change). length h) (subst (λ (p : Option Outcome). (state_after m p).history ≡ m.history ++ grows.0) run.1 grows.1) ∙ length-append m.history grows.0 in
-    let low = (at_within m.history f.e.number (Attach f.e) f.attached).1 in
+    let low = (attached_within m.history f.e f.attached).1 in
     let number = f.number in
     record {
       e = f.e;
@@ -121,13 +123,13 @@ gone_of : (m g : State) (seat : ℕ → ℕ) (s : Table ℕ View) (t k : ℕ) �
 gone_of m g seat s t k good shows grows f =
     let attached : IsAttached g.history f.e = attached_prefix m.history g.history f.e grows f.attached in
     let none : Occupies g.slots k → ⊥ = λ has. f.off has.0 (number_of (slot_at g.slots has.0) has.1 has.2 ∙ ap (λ (j : ℕ). Some j) has.3) in
-    let within = (at_within m.history f.ended.0 (Detach k) f.ended.1).1 in
+    let within = (ended_within m.history k f.ended.0 f.ended.1).1 in
     record {
       e = f.e;
       number = f.number;
       slot = f.slot;
       attached = attached;
-      ended = (f.ended.0, subst (λ (h : List Change). EndsAt h k f.ended.0) grows.1 (at_prefix m.history grows.0 f.ended.0 within ∙ f.ended.1));
+      ended = (f.ended.0, subst (λ (h : List Change). EndsAt h k f.ended.0) grows.1 (ap ended_by (at_prefix m.history grows.0 f.ended.0 within) ∙ f.ended.1));
       slotless = f.off;
       unheld = subst (λ (j : ℕ). IsUnheld (picture g) j) f.number
           (unheld_unoccupied g f.e good.holds attached (λ has. none (has.0, has.1, has.2, has.3 ∙ f.number)));
@@ -199,25 +201,47 @@ freed_by_keeper z s i l k t n r at is f =
 
 -- Kept drivers: an interface keeps the driver that its slot kept as it was attached, and that driver has its slot.
 
--- an attach gives the next number
+-- an attach, or a replacement, gives the next number
 abbrev Numbers : State → State → Event → Type 0
 Numbers s n (Publish t) = occupant_of n t ≡ Some (suc (length s.history))
+Numbers s n (Republish t u) = occupant_of n t ≡ Some (suc (length s.history))
 Numbers s n e = Unit {0}
 
 made_numbers : (s n : State) (e : Event) (r : Reply) → Holds s → Made s e n r → Numbers s n e
 made_numbers s _ _ _ on (Publishes t e of may) =
     let told = may_publish_tells s t e on.shape may in
     ap number_in (slot_here s.slots t (Live e) told.within) ∙ ap (λ (n : ℕ). Some n) told.number
+made_numbers s _ _ _ on (Republishes t u head next e f of at may is) =
+    let told = may_republish_tells s t u e f on of at may in
+    let swap = told.2.swap in
+    let lt : t < length s.slots = omega (arith, told.0, swap.within) in
+    let vacant : slot_at s.slots t ≡ Vacant = ap (slot_at s.slots) (sym told.0) ∙ swap.vacant in
+    let lu : u < length (set s.slots t (Live e)) = omega (arith, within_live s.slots u f at, length-set s.slots t (Live e)) in
+    ⊎_elim
+    (λ (here : (t ≡ u) × (slot_at (set (set s.slots t (Live e)) u (Retired f)) t ≡ Retired f)). absurd (let q : Vacant ≡ Live f = sym vacant ∙ (ap (slot_at s.slots) here.0 ∙ at) in cc))
+    (λ (off : (t ≡ u → ⊥) × (slot_at (set (set s.slots t (Live e)) u (Retired f)) t ≡ slot_at (set s.slots t (Live e)) t)).
+    ap number_in (off.1 ∙ slot_here s.slots t (Live e) lt) ∙ ap (λ (n : ℕ). Some n) swap.number)
+    (slot_cases (set s.slots t (Live e)) u (Retired f) t lu)
 made_numbers s _ _ _ on _ = tt
 
-kept_since : (cpus : ℕ) (log : List LogItem) (m : State) (more : List (ℕ × LogItem)) (es : List Event) (g : State) (t n d : ℕ)
-    → Follows m ((0, log_item (Publish t) Done) ∷ more) es g → Holds m → Known cpus log m → n ≡ suc (changes_in log) → keeping t log ≡ Some d → occupant_of g t ≡ Some n → KeepsDriver g t d
-kept_since cpus log m more [] g t n d run on known number keeps is = absurd run
-kept_since cpus log m more (e ∷ es) g t n d run on known number keeps is =
+-- by either event the slot t has the next number, and keeps what it kept
+published_number : (s : State) (e f : Event) (o : Outcome) (t : ℕ) → Holds s → IsPublishing t f → f ≡ by_number s e → step s e ≡ Some o
+    → (occupant_of o.state t ≡ Some (suc (length s.history))) × (kept_at o.state.keeps t ≡ kept_at s.keeps t)
+published_number s e f o t on (inl same) is by =
+    let attach : step s (Publish t) ≡ Some o = ap (step s) (same_event s e (Publish t) (sym same ∙ is) refl) ∙ by in
+    (made_numbers s o.state (Publish t) o.reply on (made s (Publish t) o attach), keeps_on t s (Publish t) o on attach)
+published_number s e f o t on (inr (u, same)) is by =
+    let replace : step s (Republish t u) ≡ Some o = ap (step s) (same_event s e (Republish t u) (sym same ∙ is) refl) ∙ by in
+    (made_numbers s o.state (Republish t u) o.reply on (made s (Republish t u) o replace), keeps_on t s (Republish t u) o on replace)
+
+kept_since : (cpus : ℕ) (log : List LogItem) (m : State) (more : List (ℕ × LogItem)) (es : List Event) (g : State) (t n d : ℕ) (f : Event) → IsPublishing t f
+    → Follows m ((0, log_item f Done) ∷ more) es g → Holds m → Known cpus log m → n ≡ suc (changes_in log) → keeping t log ≡ Some d → occupant_of g t ≡ Some n → KeepsDriver g t d
+kept_since cpus log m more [] g t n d f publishing run on known number keeps is = absurd run
+kept_since cpus log m more (e ∷ es) g t n d f publishing run on known number keeps is =
     let o = run.0 in
-    let attach : step m (Publish t) ≡ Some o = ap (step m) (same_event m e (Publish t) (ap (λ (x : LogItem). x.event) run.2) refl) ∙ run.1 in
-    let has : occupant_of o.state t ≡ Some n = made_numbers m o.state (Publish t) o.reply on (made m (Publish t) o attach) ∙ ap (λ (k : ℕ). Some (suc k)) known.changes ∙ ap (λ (k : ℕ). Some k) (sym number) in
-    let kept : kept_at o.state.keeps t ≡ Some d = keeps_on t m (Publish t) o on attach ∙ (known.kept t ∙ keeps) in
+    let by = published_number m e f o t on publishing (ap (λ (x : LogItem). x.event) run.2) run.1 in
+    let has : occupant_of o.state t ≡ Some n = by.0 ∙ ap (λ (k : ℕ). Some (suc k)) known.changes ∙ ap (λ (k : ℕ). Some k) (sym number) in
+    let kept : kept_at o.state.keeps t ≡ Some d = by.1 ∙ (known.kept t ∙ keeps) in
     let laws = (obeys_laws o.state (step_holds m o.state e o.reply on run.1)).drivers in
     let stands = laws.stands t d kept in
     let there : occupant_of o.state stands.0 ≡ Some d = number_of (slot_at o.state.slots stands.0) stands.1 stands.2 ∙ ap (λ (k : ℕ). Some k) stands.3 in
@@ -231,8 +255,8 @@ kept_since cpus log m more (e ∷ es) g t n d run on known number keeps is =
 
 keeps_long : (z : Settings) (s : Table ℕ Logged) (i : ℕ) (l : Logged) (t n d : ℕ) → RunsAsLogged z s → get_elem? s.views i ≡ some l → IsAttachedKeeping t n d l.known_log → KeepsAsLong z s t n d
 keeps_long z s i l t n d r at f =
-    let a = at_item z s l.known_log f.before f.after (log_item (Publish t) Done) r (r.known i l at).0 f.are in
-    record { run = r; keeps = λ is. kept_since z.cpus f.before a.m a.more a.es (after (opening z) r.run.events) t n d a.run a.on a.known f.number f.keeps is }
+    let a = at_item z s l.known_log f.before f.after (log_item f.event Done) r (r.known i l at).0 f.are in
+    record { run = r; keeps = λ is. kept_since z.cpus f.before a.m a.more a.es (after (opening z) r.run.events) t n d f.event f.publishing a.run a.on a.known f.number f.keeps is }
 
 pub attached_keeps : AttachedKeeps
 attached_keeps z s i l t n d r at f = keeps_long z s i l t n d (running_headline z s r) at f
@@ -246,7 +270,7 @@ gone_from z g k last s t n words shown gone = record {
   unheld = gone.unheld;
   unlisted = λ u lt is.
       let here : live_at g.lives u ≡ n = sym (words.at (live_of u) (subst (λ (a : Settings). u < a.slots) (sym words.settings) lt)) ∙ is in
-      let some_one : 0 < n = subst (λ (m : ℕ). 0 < m) gone.number (at_within g.history gone.e.number (Attach gone.e) gone.attached).0 in
+      let some_one : 0 < n = subst (λ (m : ℕ). 0 < m) gone.number (attached_within g.history gone.e gone.attached).0 in
       let live = live_tells n (slot_at g.slots u) (honest_tells n (slot_at g.slots u) some_one (subst (λ (m : ℕ). is_honest m (slot_at g.slots u) ≡ true) here (shown.honest u))) in
       gone.slotless u (ap number_in live.2 ∙ ap (λ (m : ℕ). Some m) live.1);
 }

@@ -1,15 +1,17 @@
 -- What the keeper's log says of counts: which entry each slot has, and the count words that were collected for it, which are net counts.
-use Rattle.std.proofs.Common.{◌≡◌, ℕ, suc, inr, ⊎_elim, ◌+◌, ◌<◌, ◌==◌, ◌&&◌, ◌-◌, Bool, true, false, not, if◌then◌else◌, List, [], ◌∷◌, ◌++◌, length, set, replicate, Option, Some, None, eq-eqb, ne_eqb, refl, sym, ap, ◌∙◌, arith}
+use Rattle.std.proofs.Common.{◌≡◌, ℕ, suc, inr, ⊎_elim, ◌+◌, ◌<◌, ◌==◌, ◌&&◌, ◌-◌, Bool, true, false, not, if◌then◌else◌, List, [], ◌∷◌, ◌++◌, length, set, replicate, Option, Some, None, eq-eqb, ne_eqb, refl, sym, ap, ◌∙◌, arith, ◌≢◌, ◌⊎◌, inl, length-set}
 use Rattle.std.proofs.lemmas.Bool.{and_parts, cases_eq, eqb-true}
-use Rattle.cpu_words.specs.Types.{Entry, Mark, Settings, MOST_CPUS, Slot, Vacant, Live, Retired, Event, Publish, Unpublish, Collect, KeptSub, Vacate, Reply, Done, Word, Ref, Empty, Giving}
+use Rattle.cpu_words.specs.Types.{Entry, Mark, Settings, MOST_CPUS, Slot, Vacant, Live, Retired, Event, Publish, Unpublish, Republish, Collect, KeptSub, Vacate, Reply, Done, Word, Ref, Empty, Giving}
 use Rattle.registry_values.specs.Common.{bias, no_mark, mark_after_look, mark_after_passive_look, mark_after_collect, is_retired, slot_at}
 use Rattle.protocol.specs.Common.{State, opening, with_cell, section_at, mark_at, passive_at, count_at, after_publish, after_collect, may_collect, snapshot_mark, may_publish, may_examine, is_drainable, is_drained, Holds, IsCounting}
-use Rattle.protocol.proofs.Made.{Made, Publishes, Unpublishes, Snaps, Looks, LooksPassive, Counts, CountsDown, Collects, SubsKept, Vacates}
+use Rattle.protocol.proofs.Made.{Made, Publishes, Unpublishes, Republishes, Snaps, Looks, LooksPassive, Counts, CountsDown, Collects, SubsKept, Vacates}
 use Rattle.protocol.proofs.counts.Counts.{is_counting, not_both}
 use Rattle.protocol.proofs.keeps.CountKeeps.{hand_within, held_counting}
 use Rattle.protocol.proofs.keeps.ListKeeps.{may_publish_tells, false_from}
 use Rattle.protocol.proofs.keeps.MarkKeeps.{is_drained_tells, mark_place, may_examine_tells}
 use Rattle.protocol.proofs.keeps.References.{snapshot_due_tells}
+use Rattle.protocol.proofs.keeps.Replacing.{may_republish_tells}
+use Rattle.protocol.proofs.Either.{either}
 use Rattle.protocol.proofs.keeps.Linking.{within_live, within_retired}
 use Rattle.protocol.proofs.Cells.{by_cell, cell_cases, cell_here, cell_in_old, cell_other, get_or_all, place_put}
 use Rattle.protocol.proofs.Occupied.{is_retired_tells, slot_cases, slot_has}
@@ -97,6 +99,42 @@ published_does s t e on may =
           (slot_cases s.slots t (Live e) u told.within),
     )
 
+-- the slot t gets the entry e as u is retired
+republished_does : (s n : State) (t u : ℕ) (e f : Entry) → t < length s.slots → slot_at s.slots t ≡ Vacant → slot_at s.slots u ≡ Live f → e.number ≡ suc (length s.history)
+    → n.slots ≡ set (set s.slots t (Live e)) u (Retired f) → n.marks ≡ set s.marks u (replicate MOST_CPUS no_mark) → n.nets ≡ set s.nets t (replicate MOST_CPUS bias) → Does s (Republish t u) Done n
+republished_does s n t u e f lt vacant at number slots marks nets =
+    let first : List Slot = set s.slots t (Live e) in
+    let new : List Slot = set first u (Retired f) in
+    let apart : t ≢ u = λ same. (let q : Vacant ≡ Live f = sym vacant ∙ (ap (slot_at s.slots) same ∙ at) in cc) in
+    let lu : u < length first = omega (arith, within_live s.slots u f at, length-set s.slots t (Live e)) in
+    let is_at : (v : ℕ) → ((v ≡ u) × (slot_at n.slots v ≡ Retired f)) ⊎ (((v ≡ u → ⊥) × (v ≡ t) × (slot_at n.slots v ≡ Live e)) ⊎ ((v ≡ u → ⊥) × (v ≡ t → ⊥) × (slot_at n.slots v ≡ slot_at s.slots v))) = λ v. ⊎_elim
+    (λ (here : (v ≡ u) × (slot_at new v ≡ Retired f)). inl (here.0, ap (λ (x : List Slot). slot_at x v) slots ∙ here.1))
+    (λ (off : (v ≡ u → ⊥) × (slot_at new v ≡ slot_at first v)). ⊎_elim
+    (λ (there : (v ≡ t) × (slot_at first v ≡ Live e)). inr (inl (off.0, there.0, ap (λ (x : List Slot). slot_at x v) slots ∙ (off.1 ∙ there.1))))
+    (λ (old : (v ≡ t → ⊥) × (slot_at first v ≡ slot_at s.slots v)). inr (inr (off.0, old.0, ap (λ (x : List Slot). slot_at x v) slots ∙ (off.1 ∙ old.1))))
+    (slot_cases s.slots t (Live e) v lt))
+    (slot_cases first u (Retired f) v lu) in (
+      λ v. either (is_at v)
+          (λ here. ap occupant_of here.1 ∙ (sym (ap occupant_of (ap (slot_at s.slots) here.0 ∙ at))
+          ∙ sym (ap (λ (b : Bool). if b then Some (suc (length s.history)) else occupant_of (slot_at s.slots v)) (ne_eqb t v (λ (same : t ≡ v). apart (same ∙ here.0))))))
+          (λ rest. either rest
+          (λ there. ap occupant_of there.2 ∙ (ap (λ (k : ℕ). Some k) number
+          ∙ sym (ap (λ (b : Bool). if b then Some (suc (length s.history)) else occupant_of (slot_at s.slots v)) (eq-eqb t v (sym there.1)))))
+          (λ old. ap occupant_of old.2 ∙ sym (ap (λ (b : Bool). if b then Some (suc (length s.history)) else occupant_of (slot_at s.slots v)) (ne_eqb t v (λ (same : t ≡ v). old.1 (sym same)))))),
+      λ v d. either (is_at v)
+          (λ here.
+          let blank : mark_at n.marks v d ≡ no_mark =
+          ap (λ (x : List (List Mark)). mark_at x v d) marks ∙ (ap (λ (k : ℕ). mark_at (set s.marks u (replicate MOST_CPUS no_mark)) k d) here.0 ∙ fresh s.marks u d) in
+          no_word n v d (undrawn_mark n v d (ap (λ (m : Mark). m.collected) blank)) ∙ sym (no_word s v d (undrawn_slot s v d (ap is_retired (ap (slot_at s.slots) here.0 ∙ at)))))
+          (λ rest. either rest
+          (λ there.
+          no_word n v d (undrawn_slot n v d (ap is_retired there.2)) ∙ sym (no_word s v d (undrawn_slot s v d (ap is_retired (ap (slot_at s.slots) there.1 ∙ vacant)))))
+          (λ old.
+          other_slot s n t v old.2
+          (λ j. ap (λ (x : List (List Mark)). (mark_at x v j).collected) marks ∙ ap (λ (m : Mark). m.collected) (cell_in_old no_mark s.marks u (replicate MOST_CPUS no_mark) v j old.0))
+          (λ j. ap (λ (x : List (List ℕ)). count_at x j v) nets ∙ cell_in_old 0 s.nets t (replicate MOST_CPUS bias) v j old.1) d)),
+    )
+
 -- the slot is vacant then
 
 abbrev IsVacantAfter : State → ℕ → State → Type 0
@@ -174,6 +212,10 @@ collected_does s t c on may =
 made_does : (s n : State) (e : Event) (r : Reply) → Holds s → Made s e n r → Does s e r n
 made_does s n _ _ on (Publishes t e of may) = published_does s t e on may
 made_does s n _ _ on (Unpublishes t head next e at rest is) = retired_does s n t e refl refl refl at
+made_does s n _ _ on (Republishes t u head next e f of at may is) =
+    let told = may_republish_tells s t u e f on of at may in
+    let swap = told.2.swap in
+    republished_does s n t u e f (omega (arith, told.0, swap.within)) (ap (slot_at s.slots) (sym told.0) ∙ swap.vacant) at swap.number refl refl refl
 made_does s n _ _ on (Snaps t c due) = (λ u. refl, marked_word s n t c (snapshot_mark (section_at s c)) refl refl refl (sym (on.balance.fresh c t c (snapshot_due_tells s.due t c due))))
 made_does s n _ _ on (Looks t c may) = (λ u. refl, marked_word s n t c (mark_after_look (mark_at s.marks t c) (section_at s c)) refl refl refl refl)
 made_does s n _ _ on (LooksPassive t c may) = (λ u. refl, marked_word s n t c (mark_after_passive_look (mark_at s.marks t c) (passive_at s.passive c t)) refl refl refl refl)

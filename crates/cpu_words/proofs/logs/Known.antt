@@ -6,10 +6,10 @@ use mathlib.Core.List.{IsPrefix}
 use lib.ListN.{get_elem?}
 use Rattle.atomic_table.specs.Table.{State as Table}
 use Rattle.atomic_table.proofs.Lists.{at_map}
-use Rattle.cpu_words.specs.Types.{Event, Reply, Entry, Mark, Settings, MOST_CPUS, Retired, Due, Rest, Snapshots, Adding, Subtracting, Change, Publish, Snapshot, Look, Done, Word}
+use Rattle.cpu_words.specs.Types.{Event, Reply, Entry, Mark, Settings, MOST_CPUS, Retired, Due, Rest, Snapshots, Adding, Subtracting, Change, Snapshot, Look, Done, Word}
 use Rattle.registry_values.specs.Common.{no_mark, mark_after_look, mark_after_passive_look, slot_at}
-use Rattle.protocol.specs.Common.{State, kept_at, Outcome, step, may_write, Holds, opening, with_cell, section_at, mark_at, count_at, passive_at, snapshot_mark, due_after, DueHolds, destroyed_slot}
-use Rattle.protocol.proofs.Made.{Made, KeepsDriver, SubsKept, made, Seats, Publishes, Unpublishes, Snaps, Looks, LooksPassive, Collects, AddsTotal, JoinsKeeper, SubsTotal, Vacates, Glances, LooksAgain}
+use Rattle.protocol.specs.Common.{State, kept_at, Outcome, step, may_write, Holds, opening, with_cell, section_at, mark_at, count_at, passive_at, snapshot_mark, due_after, DueHolds, destroyed_slot, IsPublishing}
+use Rattle.protocol.proofs.Made.{Made, KeepsDriver, SubsKept, made, Seats, Publishes, Unpublishes, Republishes, Snaps, Looks, LooksPassive, Collects, AddsTotal, JoinsKeeper, SubsTotal, Vacates, Glances, LooksAgain}
 use Rattle.protocol.proofs.keeps.ListKeeps.{may_write_tells}
 use Rattle.protocol.proofs.keeps.Searching.{within_some}
 use Rattle.protocol.proofs.keeps.References.{snapshot_due_tells}
@@ -102,6 +102,7 @@ retired_next marks t due now u d j is le =
 
 ahead_after : (s n : State) (e : Event) (r : Reply) → Made s e n r → NoneAhead s.due s.marks → NoneAhead n.due n.marks
 ahead_after s n _ _ (Unpublishes t head next e at rest is) none = retired_next s.marks t n.due refl
+ahead_after s n _ _ (Republishes t u head next e f of at may is) none = retired_next s.marks u n.due refl
 ahead_after s n _ _ (Snaps t c due) none = taken_next s t c n.due refl (snapshot_due_tells s.due t c due) none
 ahead_after s n _ _ (Looks t c may) none = same_snapshots s.due n.due s.marks n.marks (λ u d is. is) (cell_snapshot s.marks t c (mark_after_look (mark_at s.marks t c) (section_at s c)) refl) none
 ahead_after s n _ _ (LooksPassive t c may) none =
@@ -151,6 +152,7 @@ with_told s n = record n { settings = s.settings; history = s.history; slots = s
 told_stays : (seat : ℕ → ℕ) (k i : ℕ) (s n : State) (e : Event) (r : Reply) → IsSeatOf seat k i (maker (by_number s e)) → i ≢ 0 → Made s e n r → with_told s n ≡ n
 told_stays seat k i s _ _ _ is off (Publishes t e of may) = absurd (off is)
 told_stays seat k i s _ _ _ is off (Unpublishes t head next e at rest past) = absurd (off is)
+told_stays seat k i s _ _ _ is off (Republishes t u head next e f of at may past) = absurd (off is)
 told_stays seat k i s _ _ _ is off (Snaps t c due) = absurd (off is)
 told_stays seat k i s _ _ _ is off (Looks t c may) = absurd (off is)
 told_stays seat k i s _ _ _ is off (LooksPassive t c may) = absurd (off is)
@@ -308,6 +310,7 @@ pub freed_by : (t : ℕ) (log note : List LogItem) (k : KeeperView) (e : Entry) 
 freed_by t log note k e d more later own at freed are = record { before = log; item = d; after = more; are = are; detached = own.slots.retired t e at; freed = freed }
 
 -- an attach in a slot that keeps a driver
-pub attached_by : (t : ℕ) (log note : List LogItem) (k : KeeperView) (d : ℕ) (later : List LogItem) → IsOwnLog log note k → kept_at k.keeps t ≡ Some d → later ≡ log ++ log_item (Publish t) Done ∷ []
+pub attached_by : (t : ℕ) (log note : List LogItem) (k : KeeperView) (d : ℕ) (event : Event) (later : List LogItem) → IsOwnLog log note k → kept_at k.keeps t ≡ Some d → IsPublishing t event
+    → later ≡ log ++ log_item event Done ∷ []
     → IsAttachedKeeping t (suc (length k.history)) d later
-attached_by t log note k d later own keeps are = record { before = log; after = []; are = are; number = ap suc own.changes; keeps = sym (own.kept t) ∙ keeps }
+attached_by t log note k d event later own keeps publishing are = record { before = log; after = []; event = event; publishing = publishing; are = are; number = ap suc own.changes; keeps = sym (own.kept t) ∙ keeps }

@@ -4,16 +4,17 @@ use Rattle.std.proofs.lemmas.Bool.{cases_eq, and_parts}
 use Rattle.std.proofs.lemmas.List.{length-map}
 use Rattle.std.proofs.lemmas.Option.{none-some, same_Some}
 use Rattle.atomic_table.specs.Table.{State as Table}
-use Rattle.cpu_words.specs.Types.{Settings, Attach, Detach, Event, Publish, Unpublish, Reply, LoadRecord, Snapshot, Look, JoinRef, JoinKeeper, Keep, Word, Ref, Enter, Exit}
+use Rattle.cpu_words.specs.Types.{Settings, Attach, Detach, Replace, Event, Publish, Unpublish, Republish, Reply, LoadRecord, Snapshot, Look, JoinRef, JoinKeeper, Keep, Word, Ref, Enter, Exit}
 use Rattle.registry_values.specs.Common.{are_fit}
 use Rattle.protocol.specs.Common.{State, opening, Outcome, step, Holds, empty_run, after, section_at, begin_at, guard, some_outcome, is_idle, is_outside, is_inside, may_glance, may_enter, may_exit, after_enter, after_exit}
-use Rattle.protocol.proofs.Made.{Made, Publishes, Unpublishes, made, Enters, Exits}
+use Rattle.protocol.proofs.Made.{Made, Publishes, Unpublishes, Republishes, made, Enters, Exits}
 use Rattle.protocol.proofs.History.{length-after_change}
 use Rattle.protocol.proofs.keeps.Keeping.{step_holds}
 use Rattle.protocol.proofs.Either.{either}
 use Rattle.protocol.proofs.keeps.SectionKeeps.{idle_parts}
 use Rattle.cpu_words.specs.Common.{LogItem, Logged, by_number, log_of_events, changes_of, changes_in, part, untold, maker, IsSeatOf, AreByOwn, LoggedRuled, RunsAsLogged, reply_without_id, has_taken, has_found, HasNone, is_border, the_cpu}
 use Rattle.cpu_words.proofs.logs.Runs.{Follows, follows, item_of, same_first, same_rest}
+use Rattle.protocol.specs.History.{rank_at}
 
 -- How many changes the keeper's log says there were: as many as the history has.
 
@@ -23,6 +24,7 @@ use Rattle.cpu_words.proofs.logs.Runs.{Follows, follows, item_of, same_first, sa
 made_grows : (s t : State) (e : Event) (r : Reply) → Made s e t r → length t.history ≡ changes_of e (length s.history)
 made_grows s _ _ _ (Publishes t e of may) = length-after_change s.history (Attach e)
 made_grows s _ _ _ (Unpublishes t head next e at rest is) = length-after_change s.history (Detach e.number)
+made_grows s _ _ _ (Republishes t u head next e f of at may is) = length-after_change s.history (Replace f.number (rank_at s.history f.number) e)
 made_grows s _ _ _ _ = refl
 
 pub step_grows : (s : State) (e : Event) (o : Outcome) → step s e ≡ Some o → length o.state.history ≡ changes_of e (length s.history)
@@ -41,11 +43,13 @@ unnamed_changes s e n = refl
 pub moves_past : (e : Event) (a b : ℕ) → changes_of e a + b ≡ a + changes_of e b
 moves_past (Publish t) a b = omega arith
 moves_past (Unpublish t) a b = omega arith
+moves_past (Republish t u) a b = omega arith
 moves_past e a b = refl
 
 changes_off : (seat : ℕ → ℕ) (n i : ℕ) (e : Event) (m : ℕ) → IsSeatOf seat n i (maker e) → i ≢ 0 → changes_of e m ≡ m
 changes_off seat n i (Publish t) m is off = absurd (off is)
 changes_off seat n i (Unpublish t) m is off = absurd (off is)
+changes_off seat n i (Republish t u) m is off = absurd (off is)
 changes_off seat n i e m is off = refl
 
 -- the keeper's part of the acts has all the changes

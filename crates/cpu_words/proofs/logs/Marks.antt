@@ -3,10 +3,10 @@ use Rattle.std.proofs.Common.{◌≡◌, ◌⊎◌, inl, inr, ⊎_elim, ℕ, zer
 use Rattle.std.proofs.lemmas.Bool.{or_cases, not-true, eqb-true, eqb-false, cases_eq, cases_lt}
 use Rattle.std.proofs.lemmas.List.{get_or_past, set_past}
 use Rattle.std.proofs.lemmas.Option.{none-some, same_Some}
-use Rattle.cpu_words.specs.Types.{Mark, Settings, MOST_CPUS, Event, Unpublish, Snapshot, PassiveLook, Collect, Reply, Done, Word, Snapshots}
+use Rattle.cpu_words.specs.Types.{Mark, Settings, MOST_CPUS, Event, Unpublish, Republish, Snapshot, PassiveLook, Collect, Reply, Done, Word, Snapshots}
 use Rattle.registry_values.specs.Common.{no_mark, is_even, has_changed, mark_after_look}
 use Rattle.protocol.specs.Common.{State, with_cell, section_at, mark_at, opening, snapshot_mark}
-use Rattle.protocol.proofs.Made.{Made, Unpublishes, Snaps, Looks, LooksPassive, Collects}
+use Rattle.protocol.proofs.Made.{Made, Unpublishes, Republishes, Snaps, Looks, LooksPassive, Collects}
 use Rattle.protocol.proofs.keeps.References.{snapshot_due_tells}
 use Rattle.protocol.proofs.Cells.{cell_in_new, cell_in_old, get_or_all}
 use Rattle.cpu_words.specs.Common.{LogItem, Teller, has_snapped, has_looked, is_detach_from, KeepsEntry, IsSnapped, HasPassedOn, AreMarksOf, has_taken, has_found, IsSeenOut, FindsWord, WordsGrow}
@@ -86,23 +86,23 @@ fresh marks t c = ⊎_elim
     ∙ ap (λ (r : List Mark). get_or r c no_mark) (get_or_past marks t [] ge))
     (cases_lt t (length marks))
 
-detach_marks : (log : List LogItem) (marks : List (List Mark)) (t : ℕ) (r : Reply) → AreMarksOf log marks
-    → AreMarksOf (log ++ item_as (Unpublish t) r None ∷ []) (set marks t (replicate MOST_CPUS no_mark))
-detach_marks log marks t r are =
-    let new = set marks t (replicate MOST_CPUS no_mark) in
-    let d = item_as (Unpublish t) r None in record {
+-- by an event that is the detach from the slot t alone
+detach_marks : (log : List LogItem) (marks : List (List Mark)) (t : ℕ) (d : LogItem) → ((u : ℕ) → is_detach_from u d.event ≡ (t == u)) → is_for_entry d.event ≡ false → AreMarksOf log marks
+    → AreMarksOf (log ++ d ∷ []) (set marks t (replicate MOST_CPUS no_mark))
+detach_marks log marks t d one none are =
+    let new = set marks t (replicate MOST_CPUS no_mark) in record {
       snapped = λ u c w is. ⊎_elim
           (λ (same : u ≡ t). let p : mark_at new u c ≡ no_mark = ap (λ (k : ℕ). mark_at new k c) same ∙ fresh marks t c in absurd (none-some w (sym (ap (λ (m : Mark). m.snapshot) p) ∙ is)))
-          (λ (off : u ≡ t → ⊥). snapped_more u c w log d (ne_eqb t u (λ (e : t ≡ u). off (sym e)))
+          (λ (off : u ≡ t → ⊥). snapped_more u c w log d (one u ∙ ne_eqb t u (λ (e : t ≡ u). off (sym e)))
           (are.snapped u c w (sym (ap (λ (m : Mark). m.snapshot) (cell_in_old no_mark marks t (replicate MOST_CPUS no_mark) u c off)) ∙ is)))
           (cases_eq u t);
       marked = λ u c w is.
-          let p = unsnapped_by u c w log d refl is in
-          ap (λ (m : Mark). m.snapshot) (cell_in_old no_mark marks t (replicate MOST_CPUS no_mark) u c (λ (same : u ≡ t). eqb-false t u p.0 (sym same))) ∙ are.marked u c w p.1;
+          let p = unsnapped_by u c w log d none is in
+          ap (λ (m : Mark). m.snapshot) (cell_in_old no_mark marks t (replicate MOST_CPUS no_mark) u c (λ (same : u ≡ t). eqb-false t u (sym (one u) ∙ p.0) (sym same))) ∙ are.marked u c w p.1;
       passed = λ u c is. ⊎_elim
           (λ (same : u ≡ t). let p : mark_at new u c ≡ no_mark = ap (λ (k : ℕ). mark_at new k c) same ∙ fresh marks t c in
           absurd (let q : false ≡ true = sym (ap (λ (m : Mark). m.passed) p) ∙ is in cc))
-          (λ (off : u ≡ t → ⊥). passed_more u c log d (ne_eqb t u (λ (e : t ≡ u). off (sym e)))
+          (λ (off : u ≡ t → ⊥). passed_more u c log d (one u ∙ ne_eqb t u (λ (e : t ≡ u). off (sym e)))
           (are.passed u c (sym (ap (λ (m : Mark). m.passed) (cell_in_old no_mark marks t (replicate MOST_CPUS no_mark) u c off)) ∙ is)))
           (cases_eq u t);
     }
@@ -177,7 +177,8 @@ IsFirst s t c = ((mark_at s.marks t c).snapshot ≡ None) × (mark_at (with_cell
 -- the keeper's next item
 pub more_marks : (log : List LogItem) (s n : State) (e : Event) (r : Reply) (h : Option Teller) → Made s e n r → ((t c : ℕ) → s.due ≡ Snapshots t c → IsFirst s t c)
     → AreMarksOf log s.marks → AreMarksOf (log ++ item_of s e r h ∷ []) n.marks
-more_marks log s _ _ _ h (Unpublishes t head next e at rest is) first are = detach_marks log s.marks t Done are
+more_marks log s _ _ _ h (Unpublishes t head next e at rest is) first are = detach_marks log s.marks t (item_as (Unpublish t) Done None) (λ u. refl) refl are
+more_marks log s _ _ _ h (Republishes t u head next e f of at may is) first are = detach_marks log s.marks u (item_as (Republish t u) Done None) (λ v. refl) refl are
 more_marks log s _ _ _ h (Snaps t c due) first are = let one = first t c (snapshot_due_tells s.due t c due) in snapshot_marks log s.marks t c (section_at s c) one.0 one.1 are
 more_marks log s _ _ _ h (Looks t c may) first are = look_marks log s.marks t c (section_at s c) are
 more_marks log s _ _ r h (LooksPassive t c may) first are =

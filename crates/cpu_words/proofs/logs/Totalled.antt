@@ -1,5 +1,5 @@
 -- What the keeper's log says of totals: of each occupied slot the words that were collected, less the references given up.
-use Rattle.cpu_words.specs.Types.{Reply, Entry, Mark, Settings, MOST_CPUS, Slot, Vacant, Live, Retired, Event, Publish, Collect, TotalAdd, JoinKeeper, TotalSub, KeptSub, Due, Rest, Snapshots, Adding, Subtracting, Done, Word}
+use Rattle.cpu_words.specs.Types.{Reply, Entry, Mark, Settings, MOST_CPUS, Slot, Vacant, Live, Retired, Event, Publish, Republish, Collect, TotalAdd, JoinKeeper, TotalSub, KeptSub, Due, Rest, Snapshots, Adding, Subtracting, Done, Word}
 use Rattle.std.proofs.Common.{◌≡◌, inl, inr, ⊎_elim, ℕ, zero, suc, ◌+◌, ◌-◌, ◌*◌, ◌<◌, ◌≤◌, ◌==◌, ◌&&◌, nat_lt, not, Bool, true, false, if◌then◌else◌, List, [], ◌∷◌, ◌++◌, length, get_or, set, sum_by, Option, Some, None, eq-eqb, ne_eqb, refl, sym, ap, ◌∙◌, subst, append_assoc, arith}
 use Rattle.std.specs.List.{zip, list_all}
 use Rattle.std.specs.Prelude.{take}
@@ -9,14 +9,15 @@ use Rattle.std.proofs.lemmas.List.Sums.{sum_by-cons}
 use Rattle.std.proofs.lemmas.Option.{same_Some}
 use Rattle.registry_values.specs.Common.{bias, no_mark, is_retired, slot_at, slot_of}
 use Rattle.registry_values.proofs.Fit.{ranges}
-use Rattle.protocol.specs.Common.{may_publish, after_publish, may_collect, after_collect, after_total, number_standing, local_at, may_join_keeper, after_join_keeper, is_drained, after_kept_sub, State, opening, mark_at, count_at, total_at, kept_at, at_rest, may_examine, may_join, is_drainable, is_bias, Holds, IsIn, one_if, addition_due_at, is_adding_at, subtraction_due_at}
+use Rattle.protocol.specs.Common.{may_publish, after_publish, may_republish, are_unused, entry_of, row_at, may_collect, after_collect, after_total, number_standing, local_at, may_join_keeper, after_join_keeper, is_drained, after_kept_sub, State, opening, mark_at, count_at, total_at, kept_at, at_rest, may_examine, may_join, is_drainable, is_bias, Holds, IsIn, one_if, addition_due_at, is_adding_at, subtraction_due_at}
 use Rattle.protocol.proofs.Either.{either}
-use Rattle.protocol.proofs.Made.{Made, Publishes, Unpublishes, Snaps, Collects, AddsTotal, SubsTotal, JoinsKeeper, SubsKept, Vacates}
+use Rattle.protocol.proofs.Made.{Made, Publishes, Unpublishes, Republishes, Snaps, Collects, AddsTotal, SubsTotal, JoinsKeeper, SubsKept, Vacates}
 use Rattle.protocol.proofs.counts.Bounds.{adding_range, adding_within, driver_positive, subtracting_range}
 use Rattle.protocol.proofs.counts.Sums.{one_self, one_other}
 use Rattle.protocol.proofs.keeps.ListKeeps.{may_publish_tells, false_from}
 use Rattle.protocol.proofs.keeps.MarkKeeps.{is_drained_tells, may_examine_tells}
 use Rattle.protocol.proofs.keeps.References.{snapshot_due_tells}
+use Rattle.protocol.proofs.keeps.Replacing.{may_republish_tells}
 use Rattle.protocol.proofs.Cells.{total_here, total_other}
 use Rattle.protocol.proofs.Occupied.{at_rest_tells, fresh_unoccupied, in_within, one_number, slot_has}
 use Rattle.cpu_words.specs.Common.{LogItem, Teller, KeeperView, number_at, collected_net, collected_one, GivesUp, KeeperShown, Good, number_or_none, by_number, changes_in, keeping, names, occupant_after, occupant, word_after, word_collected, occupant_of, word_if, AreCountsOf, given_by, given_after, given_up, sum_below, is_there, word_or_none, words_collected, sum_collected, AreTotalsOf}
@@ -178,7 +179,7 @@ if_here u t x y same = ap (λ (b : Bool). if b then x else y) (eq-eqb u t same)
 if_off : {X : Type 0} (u t : ℕ) (x y : X) → (u ≡ t → ⊥) → (if u == t then x else y) ≡ y
 if_off u t x y off = ap (λ (b : Bool). if b then x else y) (ne_eqb u t off)
 
--- a slot is published with its total at the bias; nothing was collected for the new entry, and nothing given up
+-- a slot gets an entry, by either event, with its total at the bias; nothing was collected for the new entry, and nothing given up
 published_here : (log : List LogItem) (s : State) (u : ℕ) (e : Entry) (h : Option Teller) (n : ℕ) → Holds s → may_publish s u e ≡ true → suc (changes_in log) ≡ n → SaidBefore log s
     → Next log s (Publish u) (after_publish s u e) Done h u n
 published_here log s u e h n on may number known =
@@ -201,6 +202,38 @@ published_next log s u e h t n on may is known = either (cases_eq u t)
     let number = same_Some (suc (changes_in log)) n (sym (if_here u t (Some (suc (changes_in log))) (occupant t log) same) ∙ is) in
     subst (λ (v : ℕ). Next log s (Publish u) (after_publish s u e) Done h v n) same (published_here log s u e h n on may number known))
     (λ off. untouched log s (Publish u) Done h t n (λ c. refl) refl (known.totals.total t n (sym (if_off u t (Some (suc (changes_in log))) (occupant t log) off) ∙ is)))
+
+-- so it is where an entry comes in another's place
+
+republished_here : (log : List LogItem) (s g : State) (v u : ℕ) (h : Option Teller) (n : ℕ) → slot_at s.slots v ≡ Vacant → are_unused s v ≡ true → suc (changes_in log) ≡ n → g.totals ≡ s.totals
+    → g.due ≡ Snapshots u 0 → SaidBefore log s → Next log s (Republish v u) g Done h v n
+republished_here log s g v u h n vacant free number totals due known =
+    let none : given_up n log ≡ 0 = known.totals.later n (omega (arith, number)) in
+    let unused = and_parts (list_all is_bias (take s.settings.cpus (get_or s.counts v []))) (total_at s.totals v == bias) free in
+    let quiet = due_alike g.due (Snapshots u 0) due v in
+    let d : LogItem = item_of s (Republish v u) Done h in
+    let word : (c : ℕ) → word_collected v c (log ++ d ∷ []) ≡ None =
+    λ c. word_next v c log s (Republish v u) Done h ∙ (known.counts.words v c ∙ no_word s v c (undrawn_slot s v c (ap is_retired vacant))) in
+    let words : words_collected v (log ++ d ∷ []) ≡ 0 = sum_other (λ c. 0) (λ c. is_there (word_collected v c (log ++ d ∷ []))) MOST_CPUS (λ c lt. ap is_there (word c)) in
+    let sum : sum_collected v (log ++ d ∷ []) ≡ 0 = sum_other (λ c. 0) (λ c. word_or_none (word_collected v c (log ++ d ∷ []))) MOST_CPUS (λ c lt. ap word_or_none (word c)) in
+    published_sum (total_at g.totals v) (addition_due_at v g.due) (given_up n (log ++ d ∷ [])) (words_collected v (log ++ d ∷ [])) (is_adding_at v g.due)
+    (subtraction_due_at v g.due) (sum_collected v (log ++ d ∷ [])) (given_up n log) (ap (λ (x : List ℕ). total_at x v) totals ∙ eqb-true (total_at s.totals v) bias unused.1) quiet.0 quiet.1 quiet.2
+    words sum (given_more n log d) none
+
+republished_next : (log : List LogItem) (s g : State) (v u : ℕ) (e f : Entry) (h : Option Teller) (t n : ℕ) → Holds s → entry_of v (row_at s.rows v) ≡ Some e → slot_at s.slots u ≡ Live f
+    → may_republish s v u e f ≡ true → g.totals ≡ s.totals → g.due ≡ Snapshots u 0 → occupant_after t (changes_in log) (Republish v u) (occupant t log) ≡ Some n → SaidBefore log s
+    → Next log s (Republish v u) g Done h t n
+republished_next log s g v u e f h t n on of at may totals due is known =
+    let told = may_republish_tells s v u e f on of at may in
+    let swap = told.2 in
+    either (cases_eq v t)
+    (λ same.
+    let number = same_Some (suc (changes_in log)) n (sym (if_here v t (Some (suc (changes_in log))) (occupant t log) same) ∙ is) in
+    subst (λ (w : ℕ). Next log s (Republish v u) g Done h w n) same
+    (republished_here log s g v u h n (ap (slot_at s.slots) (sym told.0) ∙ swap.swap.vacant) (ap (are_unused s) (sym told.0) ∙ swap.unused) number totals due known))
+    (λ off. as_much log s (Republish v u) g Done h t n (λ c. refl)
+    (quietly log s (Republish v u) g t n refl totals (quiet_rest s.due t swap.rest) (due_alike g.due (Snapshots u 0) due t))
+    (known.totals.total t n (sym (if_off v t (Some (suc (changes_in log))) (occupant t log) off) ∙ is)))
 
 -- the word that is collected is one more, and counts once it is added
 
@@ -292,6 +325,7 @@ total_next : (log : List LogItem) (s g : State) (e : Event) (r : Reply) (h : Opt
 total_next log s g _ _ h t n on (Publishes u e of may) is known = published_next log s u e h t n on may is known
 total_next log s g e r h t n on (Unpublishes u head next f at rest past) is known = as_much log s e g r h t n (λ c. refl)
     (quietly log s e g t n refl refl (quiet_rest s.due t (at_rest_tells s.due rest)) (refl, refl, refl)) (known.totals.total t n is)
+total_next log s g _ _ h t n on (Republishes v u head next e f of at may past) is known = republished_next log s g v u e f h t n on of at may refl refl is known
 total_next log s g e r h t n on (Snaps u c due) is known = as_much log s e g r h t n (λ d. refl)
     (quietly log s e g t n refl refl (due_alike s.due (Snapshots u c) (snapshot_due_tells s.due u c due) t) (quiet_if t u (c + 1) (nat_lt (c + 1) s.settings.cpus))) (known.totals.total t n is)
 total_next log s g _ _ h t n on (Collects u c may) is known = collected_next log s u c h t n on may is known

@@ -4,12 +4,12 @@ use Rattle.std.proofs.lemmas.List.{take-append-drop, length-take-le, take_all, t
 use Rattle.std.proofs.lemmas.Bool.{eq-eqb, lt-ltb, ne_eqb}
 use Rattle.std.proofs.lemmas.Option.{none-some}
 use mathlib.Core.List.{IsPrefix}
-use Rattle.cpu_words.specs.Types.{Entry, Change, Attach, Slot, Vacant, Live, Retired, Hand, Empty, Taking, Giving, Back, Trying}
+use Rattle.cpu_words.specs.Types.{Entry, Change, Slot, Vacant, Live, Retired, Hand, Empty, Taking, Giving, Back, Trying}
 use Rattle.registry_values.specs.Common.{slot_at, slot_of}
 use Rattle.registry_values.proofs.Fit.{Ranges, ranges}
-use Rattle.protocol.specs.Common.{IsAttached, is_honest, live_at, State, section_at, begin_at, seen_at, search_at, found_at, hand_at, is_idle, one_if, trying_at, trying_of, IsIn, Occupies}
+use Rattle.protocol.specs.Common.{IsAttached, is_honest, live_at, State, section_at, begin_at, seen_at, search_at, found_at, hand_at, is_idle, one_if, trying_at, trying_of, IsIn, Occupies, brought_by}
 use Rattle.protocol.specs.History.{change_at}
-use Rattle.protocol.proofs.History.{at_prefix, at_within, one_entry}
+use Rattle.protocol.proofs.History.{at_prefix, attached_within, one_entry}
 use Rattle.protocol.proofs.Occupied.{attached_in, slot_found, slot_occupied}
 use Rattle.protocol.proofs.Cells.{place_put}
 use Rattle.cpu_words.specs.Common.{LivesShow, CpuView, InHand, SameHand, CpuShown, Good, IsIdle, trying_in}
@@ -18,7 +18,7 @@ use Rattle.cpu_words.specs.declared.view.InHand.TheVariants.{Empty as NoEntry, T
 -- A pass is a prefix of the history: what is attached in it, and how it grows.
 
 pub attached_on : (p zs : List Change) (e : Entry) → IsAttached p e → IsAttached (p ++ zs) e
-attached_on p zs e there = at_prefix p zs e.number (at_within p e.number (Attach e) there).1 ∙ there
+attached_on p zs e there = ap brought_by (at_prefix p zs e.number (attached_within p e there).1) ∙ there
 
 pub attached_prefix : (p h : List Change) (e : Entry) → IsPrefix p h → IsAttached p e → IsAttached h e
 attached_prefix p h e pre there = subst (λ l. IsAttached l e) pre.1 (attached_on p pre.0 e there)
@@ -30,11 +30,11 @@ taken_is_prefix n h = (drop n h, take-append-drop n h)
 pub attached_take : (h : List Change) (n : ℕ) (e : Entry) → n ≤ length h → IsAttached h e → e.number ≤ n → IsAttached (take n h) e
 attached_take h n e le there reach =
     let size : length (take n h) ≡ n = length-take-le n h le in
-    sym (at_prefix (take n h) (drop n h) e.number (omega arith)) ∙ ap (λ l. change_at l e.number) (take-append-drop n h) ∙ there
+    ap brought_by (sym (at_prefix (take n h) (drop n h) e.number (omega arith))) ∙ ap (λ l. brought_by (change_at l e.number)) (take-append-drop n h) ∙ there
 
 pub number_within : (h : List Change) (n : ℕ) (e : Entry) → n ≤ length h → IsAttached (take n h) e → e.number ≤ n
 number_within h n e le there =
-    let b = (at_within (take n h) e.number (Attach e) there).1 in
+    let b = (attached_within (take n h) e there).1 in
     omega (arith, length-take-le n h le)
 
 -- a pass grows

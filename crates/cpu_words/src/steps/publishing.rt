@@ -2,12 +2,12 @@
 //! that leads to it. In between its slot's live word has its number: shown after the one, and hidden before the other.
 
 ghost use Rattle.std.specs.Prelude.{◌≡◌, ℕ, ◌<◌, Some, None, suc, length};
-ghost use Rattle.cpu_words.specs.Types.{Entry, Publish, Unpublish, Show, Hide, Done};
+ghost use Rattle.cpu_words.specs.Types.{Entry, Publish, Unpublish, Republish, Show, Hide, Done};
 ghost use Rattle.cpu_words.specs.declared.view.View.TheVariants.{Keeper};
 ghost use Rattle.protocol.specs.Common.{kept_at};
 ghost use Rattle.cpu_words.specs.KeeperLog.{IsAttachedKeeping};
 ghost use Rattle.cpu_words.specs.Steps.{SeatMakes};
-ghost use Rattle.cpu_words.specs.Publishing.{MayHide, MayShow, keeper_after_live, MayPublish, HasPublished, MayUnpublish, HasUnpublished, IsLinkPlace, link_index};
+ghost use Rattle.cpu_words.specs.Publishing.{MayHide, MayShow, keeper_after_live, MayPublish, HasPublished, MayUnpublish, HasUnpublished, MayRepublish, HasRepublished, IsLinkPlace, link_index};
 
 use crate::law::Words;
 use crate::layout::{HEAD, live_place, next_place};
@@ -56,6 +56,30 @@ pub fn unpublish(words: &Words, keeper: &mut KeeperSeat, slot: u8, before: Optio
         link,
         Event::Unpublish(slot),
     );
+}
+
+/// Puts the entry whose words the vacant slot `slot` has in the place of the live entry in `old`: the one link that leads to `old` is
+/// stored, and leads to `slot`. The old entry is retired, its own link stays as it is, and the snapshots of all CPUs are due for it.
+/// `before` is the slot of the live entry before it on the list, or none where it is the first.
+///
+/// Conditions:
+///
+/// - the keeper is at rest, and the old entry is hidden;
+/// - the slot's record has the next number (from 1), and the old entry's kind and name;
+/// - its link leads where the old entry's does, and its count words and its total count no reference;
+/// - it keeps a driver exactly if the entry is an interface;
+/// - the history has room for this change and for the detaches of all live entries, the new one too.
+pub fn republish(words: &Words, keeper: &mut KeeperSeat, slot: u8, old: u8, before: Option<u8>)
+    requires table { keeper.old.table ≡ words.now.table }
+    requires place { IsLinkPlace words.now.settings.slots before }
+    requires may { MayRepublish keeper.old.view slot old before }
+    ensures step { SeatMakes Keeper (Republish slot old) Done keeper.old keeper.new }
+    ensures change { HasRepublished keeper.old.view slot old before keeper.new.view }
+    ensures attached { (d : ℕ) → kept_at keeper.old.view.keeps slot ≡ Some d → IsAttachedKeeping slot (suc (length keeper.old.view.history)) d keeper.new.log }
+{
+    let link = slot as u64 + 1;
+    let event = Event::Republish(slot, old);
+    hearing::store::<Brand>(words, keeper, link_place(before), link, event);
 }
 
 /// Shows the live entry in `slot`: stores its number in the slot's live word. From now on a CPU that remembers the entry finds it by one load.

@@ -1,9 +1,10 @@
-//! The list: a vacant slot's words, the store that links its entry, and the store that unlinks it.
+//! The list: a vacant slot's words, the store that links its entry, the store that unlinks it, and the one that puts an entry in another's place.
 
-ghost use Rattle.std.specs.Prelude.{◌≡◌, ◌<◌, ◌≤◌, IsTrue, IfSome, length, take, position, true};
-ghost use Rattle.passive_core.specs.Types.{StoreSlot, StoreNext, Publish, Unpublish, Live};
-ghost use Rattle.protocol.specs.Common.{may_write, with_word, kind_of, entry_if, entry_of, is_bias, are_unused, room_of, keeps_rightly, is_prepared, may_publish, names_lawfully, at_rest, row_at, Steps};
-ghost use Rattle.registry_values.specs.Common.{is_taken, is_live_as, is_live, live_count, slot_before, leads_to, slot_at};
+ghost use Rattle.std.specs.Prelude.{◌≡◌, ◌<◌, ◌≤◌, ◌==◌, ◌&&◌, IsTrue, IfSome, length, take, position, slice_index_or, true};
+ghost use Rattle.passive_core.specs.Types.{StoreSlot, StoreNext, Publish, Unpublish, Republish, Live};
+ghost use Rattle.protocol.specs.Common.{may_write, with_word, kind_of, entry_if, entry_of, is_bias, are_unused, room_of, kept_at, keeps_rightly, is_prepared, may_publish, may_republish, names_lawfully, at_rest, row_at, Steps};
+ghost use Rattle.protocol.specs.History.{rank_at};
+ghost use Rattle.registry_values.specs.Common.{is_taken, is_live_as, is_live, key_of, live_count, same_key, slot_before, leads_to, slot_at};
 ghost use Rattle.std.specs.List.{list_all, zip};
 
 use crate::machine::{Core, NO_WORDS, grow};
@@ -202,6 +203,85 @@ impl Core {
         self.due = Due::Snapshots(t, 0);
         Ok(Reply::Done)
     }
+
+    /// Whether all is stored in t that its entry needs to take the place of `old`, which is live in u.
+    fn may_republish(&self, t: u8, u: u8, entry: &Entry, old: &Entry) -> bool
+        requires { slot_at self.now.slots u ≡ Live old.now }
+        ensures value { result ≡ may_republish self.now t u entry.now old.now }
+        ensures slot { IsTrue result → t < self.now.settings.slots }
+    {
+        self.may_write(t)
+            && entry.number == self.changes() + 1
+            && are_alike(entry, old)
+            && has_room(self.room())
+            && self.may_follow(t, u, entry.rec.kind)
+    }
+
+    /// Whether the slot's link is that of the slot u, its counts are those of a new entry, and what it keeps is right for its kind.
+    fn may_follow(&self, t: u8, u: u8, kind: Kind) -> bool
+        requires new { t < self.now.settings.slots }
+        requires old { (f : Entry) × (slot_at self.now.slots u ≡ Live f) }
+        ensures { result ≡ (slice_index_or self.now.next t 0 == slice_index_or self.now.next u 0 && (are_unused self.now t && keeps_rightly (kept_at self.now.keeps t) kind)) }
+    {
+        self.next[t as usize] == self.next[u as usize]
+            && self.are_unused(t)
+            && keeps_rightly(self.kept_at(t), kind)
+    }
+
+    pub(crate) fn step_republish(&mut self, t: u8, u: u8) -> Result<Reply, StepFault>
+        ensures { Steps self.old self.new (Republish t u) result }
+    {
+        let Some(entry) = self.entry_at(t) else {
+            return Err(StepFault::NotAllowed);
+        };
+        let Slot::Live(old) = self.slot_at(u) else {
+            return Err(StepFault::NotAllowed);
+        };
+        if !self.may_republish(t, u, &entry, &old) {
+            return Err(StepFault::NotAllowed);
+        }
+        self.relink(t, u, entry, old)
+    }
+
+    fn relink(&mut self, new: u8, old: u8, entry: Entry, gone: Entry) -> Result<Reply, StepFault>
+        requires entry { entry_of new (row_at self.old.rows new) ≡ Some entry }
+        requires live { slot_at self.old.slots old ≡ Live gone }
+        requires may { may_republish self.old new old entry gone ≡ true }
+        ensures { Steps self.old self.new (Republish new old) result }
+    {
+        let before = self.slot_before(old);
+        let rank = self.rank_at(gone.number);
+        grow(&mut self.history, Change::Replace(gone.number, rank, entry))?;
+        match before {
+            Some(p) => self.next[p as usize] = new as u64 + 1,
+            None => self.head = new as u64 + 1,
+        }
+        self.slots[new as usize] = Slot::Live(entry);
+        self.slots[old as usize] = Slot::Retired(gone);
+        self.nets[new as usize] = [BIAS; MOST_CPUS];
+        self.marks[old as usize] = [NO_MARK; MOST_CPUS];
+        self.due = Due::Snapshots(old, 0);
+        Ok(Reply::Done)
+    }
+
+    /// Where the entry with this number stands on the list.
+    fn rank_at(&self, number: u64) -> u64
+        requires above { 0 < number }
+        requires within { number ≤ length self.now.history }
+        ensures { result ≡ rank_at self.now.history number }
+    {
+        match self.history[number as usize - 1] {
+            Change::Replace(_, rank, _) => rank,
+            Change::Attach(_) | Change::Detach(_) => number,
+        }
+    }
+}
+
+/// Whether the entries have one kind and name.
+fn are_alike(entry: &Entry, old: &Entry) -> bool
+    ensures { result ≡ same_key (key_of entry.now) (key_of old.now) }
+{
+    entry.rec.kind == old.rec.kind && entry.rec.name == old.rec.name
 }
 
 /// The record words with another word k, from 0; the last for k above 4.

@@ -10,7 +10,7 @@ use protocol::{Counted, Event, RecordOf, Reply, Short, StepFault};
 impl Core {
     /// Makes one event. Refused, in this order: `NotAllowed` exactly where the event's condition fails, or a `Publish` is of a name that isn't
     /// lawful (`narrow_step`); `NoMemory` where
-    /// a list would have to grow, so only from `Publish`, `Unpublish` and `SplitRef`. Both change nothing.
+    /// a list would have to grow, so only from `Publish`, `Unpublish`, `Republish` and `SplitRef`. Both change nothing.
     pub fn step(&mut self, event: Event) -> Result<Reply, StepFault>
         ensures { Steps self.old self.new event result }
     {
@@ -25,6 +25,7 @@ impl Core {
             Event::StoreNext(t, v) => self.step_store_next(t, v),
             Event::Publish(t) => self.step_publish(t),
             Event::Unpublish(t) => self.step_unpublish(t),
+            Event::Republish(t, u) => self.step_republish(t, u),
             Event::Tell(to) => self.step_tell(to),
             Event::Hear(to) => self.step_hear(to),
             Event::Snapshot(to, c) => self.step_snapshot(to, c),

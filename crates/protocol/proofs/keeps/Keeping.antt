@@ -1,9 +1,9 @@
 -- Each event keeps the core invariant.
-use Rattle.std.proofs.Common.{◌≡◌, ℕ, ◌-◌, inr, List, [], ◌∷◌, length-set, get_or, take, Option, Some, true, ◌==◌, IsTrue, refl, subst, sym, ◌∙◌, arith, ltb-true}
+use Rattle.std.proofs.Common.{◌≡◌, ℕ, ◌-◌, inr, List, [], ◌∷◌, length-set, get_or, set, replicate, take, Option, Some, true, ◌==◌, IsTrue, refl, subst, sym, ◌∙◌, arith, ltb-true}
 use Rattle.std.specs.Prelude.{is_none, nat_lt}
 use Rattle.std.specs.List.{list_all}
 use Rattle.std.proofs.lemmas.Bool.{and_parts, eqb-true}
-use Rattle.protocol.proofs.Made.{Made, Seats, Enters, Exits, Seeks, LoadsEnd, LoadsSlot, LoadsWord, LoadsLast, StoresRow, StoresCount, StoresLink, Publishes, Unpublishes, Hears, Snaps, Looks, AddsPassive, SubsPassive, LooksPassive, made, each_event, Counts, Splits, Joins, CountsDown, FindsCollected, SplitsBack, Collects, AddsTotal, JoinsKeeper, SubsTotal, KeepsDriver, SubsKept, Vacates, Shows, Hides, Recalls, RecallsHead, Refinds, Tries, ConfirmsTry, TakesBack}
+use Rattle.protocol.proofs.Made.{Made, Seats, Enters, Exits, Seeks, LoadsEnd, LoadsSlot, LoadsWord, LoadsLast, StoresRow, StoresCount, StoresLink, Publishes, Unpublishes, Republishes, Hears, Snaps, Looks, AddsPassive, SubsPassive, LooksPassive, made, each_event, Counts, Splits, Joins, CountsDown, FindsCollected, SplitsBack, Collects, AddsTotal, JoinsKeeper, SubsTotal, KeepsDriver, SubsKept, Vacates, Shows, Hides, Recalls, RecallsHead, Refinds, Tries, ConfirmsTry, TakesBack}
 use Rattle.protocol.proofs.counts.Bounds.{bias_at, none_held_at_bias}
 use Rattle.protocol.proofs.keeps.CountKeeps.{collect_keeps, count_add_keeps, count_down_keeps, count_store_keeps, collected_keeps, fit_of, join_keeper_keeps, join_keeps, keep_keeps, only_slot, split_back_keeps, confirm_keeps, split_keeps, take_back_keeps, total_add_keeps, total_sub_keeps, try_keeps}
 use Rattle.protocol.proofs.counts.Counts as C
@@ -12,13 +12,15 @@ use Rattle.registry_values.proofs.Fit.{ranges}
 use Rattle.protocol.proofs.counts.Sums.{published_held}
 use Rattle.protocol.proofs.keeps.ListKeeps as L
 use Rattle.protocol.proofs.keeps.MarkKeeps as M
+use Rattle.protocol.proofs.keeps.Replacing as R
+use Rattle.protocol.specs.Common.{after_republish, may_republish, with_replaced}
 use Rattle.protocol.proofs.Occupied.{in_within, at_rest_tells}
 use Rattle.protocol.proofs.keeps.References.{references_opening, references_publish, references_snapshot, references_unpublish, references_vacate, standing_tells, snapshot_due_tells}
 use Rattle.protocol.proofs.keeps.SearchKeeps.{link_keeps, record_keeps, seek_keeps}
 use Rattle.protocol.proofs.keeps.SectionKeeps.{enter_keeps, exit_keeps, hear_keeps, recall_head_keeps, recall_keeps, refind_keeps, seat_keeps}
 use Rattle.protocol.specs.Common.{Outcome, after_kept_sub, after_publish, after_snapshot, after_unpublish, after_vacate, entry_of, is_bias, is_drained, is_iface_slot, is_snapshot_due, may_publish, may_vacate, may_write, with_retired, count_at, after_live_store, snapshot_mark, state_after, step, Holds, held_at, Run, run_of_events, run_with_event, at_rest, State, kept_at, local_at, mark_at, opening, passive_at, row_at, section_at, total_at, Keeps, Event, Reply, Snapshots}
 use Rattle.registry_values.specs.Common.{mark_after_passive_look, mark_after_look, slot_of, slot_at, are_fit, bias}
-use Rattle.protocol.specs.Types.{Entry, Settings, Live, Retired}
+use Rattle.protocol.specs.Types.{Entry, MOST_CPUS, Settings, Slot, Live, Retired}
 
 -- The list
 
@@ -38,6 +40,37 @@ unpublish_keeps s t e on is rest = L.unpublish_keeps s t e on is rest
     (C.unpublish on.balance (fit_of s on) t e (at_rest_tells s.due rest) is)
     (references_unpublish on.references t e (ranges s.settings on.fit).some_cpu is)
     (drivers_unpublish s.slots s.keeps t e is on.kept_drivers)
+
+pub republish_keeps : (s : State) (t u : ℕ) (e f : Entry) → Holds s → entry_of t (row_at s.rows t) ≡ Some e → slot_at s.slots u ≡ Live f → may_republish s t u e f ≡ true → Holds (after_republish s t u e f)
+republish_keeps s t u e f on of at may =
+    let told = R.may_republish_tells s t u e f on of at may in
+    let is : R.IsSwap s f e = told.2 in
+    let m : R.MaySwap s.history s.slots f e = is.swap in
+    let slots : List Slot = set s.slots e.slot (Live e) in
+    let still : slot_at slots f.slot ≡ Live f = R.old_still s.history s.slots f e m in
+    let unused = and_parts (list_all is_bias (take s.settings.cpus (get_or s.counts e.slot []))) (total_at s.totals e.slot == bias) is.unused in
+    let none : held_at s.locals s.hands s.keeps s.due e.number e.slot ≡ 0 =
+    published_held s.history s.settings.cpus s.slots s.hands s.keeps s.due s.locals e.number e.slot on.slots (omega (arith, m.number)) is.rest on.references on.kept_drivers in
+    let fit = fit_of s on in
+    let first = C.publish on.balance fit e.slot e m.within m.vacant is.rest (λ c lt. bias_at fit e.slot c m.within lt unused.0) none in
+    let fit_now : C.CountsFit s.settings slots s.marks s.counts (set s.nets e.slot (replicate MOST_CPUS bias)) s.totals s.hands s.keeps = record {
+      cpu_limit = fit.cpu_limit;
+      limit = fit.limit;
+      slot_length = length-set s.slots e.slot (Live e) ∙ fit.slot_length;
+      mark_length = fit.mark_length;
+      mark_rows = fit.mark_rows;
+      count_length = fit.count_length;
+      count_rows = fit.count_rows;
+      net_length = length-set s.nets e.slot (replicate MOST_CPUS bias) ∙ fit.net_length;
+      net_rows = L.rows_put s.nets e.slot (replicate MOST_CPUS bias) refl fit.net_rows;
+      total_length = fit.total_length;
+      hand_length = fit.hand_length;
+      keep_length = fit.keep_length;
+    } in
+    R.republish_keeps s t u e f on told.0 told.1 is
+    (C.unpublish first fit_now f.slot f is.rest still)
+    (references_unpublish (references_publish on.references e.slot e m.within m.vacant) f.slot f (ranges s.settings on.fit).some_cpu still)
+    (drivers_unpublish slots s.keeps f.slot f still (drivers_publish s.slots s.keeps e.slot e m.within m.vacant is.rightly on.kept_drivers))
 
 -- Grace
 
@@ -98,6 +131,7 @@ made_keeps s _ _ _ on (StoresCount t k v may) =
 made_keeps s _ _ _ on (StoresLink t v may) = L.link_store_keeps s t v on may
 made_keeps s _ _ _ on (Publishes t e of may) = publish_keeps s t e on of may
 made_keeps s _ _ _ on (Unpublishes t head next e at rest is) = subst (λ (x : State). Holds (with_retired x t e)) is (unpublish_keeps s t e on at rest)
+made_keeps s _ _ _ on (Republishes t u head next e f of at may is) = subst (λ (x : State). Holds (with_replaced x t u e f)) is (republish_keeps s t u e f on of at may)
 made_keeps s _ _ _ on (Hears c idle) = hear_keeps s c on idle
 made_keeps s _ _ _ on (Snaps t c due) = snapshot_keeps s t c on due
 made_keeps s _ _ _ on (Looks t c may) = M.look_keeps s t c on may (C.one_marked on.balance c t (mark_after_look (mark_at s.marks t c) (section_at s c)) refl)

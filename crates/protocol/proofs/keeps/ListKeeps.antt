@@ -8,7 +8,8 @@ use Rattle.std.proofs.lemmas.Option.{none-some, same_Some}
 use Rattle.std.specs.Prelude.{if◌then◌else◌}
 use Rattle.protocol.proofs.History.{found_old, searches_old, sections_old, length-after_change}
 use Rattle.protocol.proofs.keeps.Marking.{marks_detach, snapshots_detach, passive_attach, passive_detach}
-use Rattle.protocol.proofs.keeps.Linking.{held_attach, legal_attach, links_attach, list_attach, marks_attach, rows_attach, slots_attach, before_leads, head_leads, head_leads_on, held_detach, legal_detach, link_to, links_detach, list_unlink_head, list_unlink_mid, rows_detach, slots_detach, within_live, retired_before}
+use Rattle.protocol.proofs.keeps.Linking.{at_head, at_link, held_attach, legal_attach, links_attach, list_attach, marks_attach, rows_attach, slots_attach, before_leads, head_leads, held_detach, legal_detach, link_to, links_detach, list_unlink, rows_detach, slots_detach, within_live, retired_before}
+use Rattle.protocol.specs.History.{rank_at}
 use Rattle.protocol.specs.Common.{after_link_store, after_publish, after_row_store, after_unpublish, are_unused, entry_of, keeps_rightly, may_publish, may_write, with_retired, with_link_past, with_word, words_of, after_change, AreRows, CountsHold, DriversKept, HasShape, Holds, IsIn, Leads, LinksStay, ListShows, ReferencesHold, RowsShow, SnapshotsStand, one_if, at_rest, State, kept_at, no_words, row_at, with_cell, Rest, RecordWords}
 use Rattle.protocol.specs.Types.{MOST_CPUS, Attach, Detach, Entry, Key, Slot, Live, Retired, Vacant}
 use Rattle.registry_values.specs.Common.{key_of, is_live, is_taken, live_count, same_key, slot_before, slot_at, bias, no_mark}
@@ -92,9 +93,9 @@ link_store_keeps s t v on may =
     let same : (u : ℕ) (f : Entry) → IsIn f (slot_at s.slots u) → get_or (set s.next t v) u 0 ≡ get_or s.next u 0 =
     λ u f is. get_or-set_other s.next t u v 0 (λ same. not_vacant f (slot_at s.slots u) (ap (slot_at s.slots) same ∙ told.2) is) in
     let list : ListShows s.history s.slots s.head (set s.next t v) =
-    record { first = on.list.first; links = λ u f is. subst (Leads s.history (length s.history) f.number) (sym (same u f (inl is))) (on.list.links u f is) } in
+    record { first = on.list.first; links = λ u f is. subst (Leads s.history (length s.history) (rank_at s.history f.number)) (sym (same u f (inl is))) (on.list.links u f is) } in
     let frozen : LinksStay s.history s.slots (set s.next t v) s.begins =
-    λ u p c b f is ends in_ low. subst (Leads s.history p f.number) (sym (same u f (inr is))) (on.frozen_links u p c b f is ends in_ low) in
+    λ u p c b f is ends in_ low. subst (Leads s.history p (rank_at s.history f.number)) (sym (same u f (inr is))) (on.frozen_links u p c b f is ends in_ low) in
     assumption (length-set s.next t v ∙ on.shape.links)
 
 -- the words of a row are its entry's
@@ -122,7 +123,7 @@ publish_own s e on row name may counts references drivers =
       slots_attach s.history s.slots e on.legal told.within told.vacant told.number on.slots,
       rows_attach s.slots s.rows e told.within row name on.rows,
       held_attach s.history s.slots s.begins e told.within told.vacant told.number on.held,
-      links_attach s.history s.slots s.next s.begins e told.within on.frozen_links,
+      links_attach s.history s.slots s.next s.begins e on.legal told.within on.frozen_links,
       marks_attach s.history s.slots s.marks s.section s.begins e told.within on.grace,
       λ (u c : ℕ) (f : Entry) (is : slot_at (set s.slots e.slot (Live e)) u ≡ Retired f). on.snapshots u c f (retired_before s.slots e u f told.within is),
       sections_old s.settings s.history (Attach e) s.section s.begins s.depths s.seen on.sections,
@@ -173,23 +174,24 @@ unlink_own : (s : State) (e : Entry) (o : Option ℕ) → Holds s → slot_at s.
     → CountsOf (with_retired s e.slot e) → ReferencesOf (with_retired s e.slot e) → DriversOf (with_retired s e.slot e) → Holds (with_retired (with_link_past s e.slot o) e.slot e)
 unlink_own s e None on at rest is counts references drivers =
     let size : length s.next ≡ length s.slots = on.shape.links ∙ sym on.shape.slots in
-    let first : s.head ≡ suc e.slot = head_leads s.history s.slots s.head s.next e on.slots on.list size at is in
+    let first : s.head ≡ suc e.slot = head_leads s.history s.slots s.head s.next e on.legal on.slots on.list size at is in
     fit_unlinked s e (get_or s.next e.slot 0) s.next on at rest refl
-    (list_unlink_head s.history s.slots s.head s.next e at on.slots first on.list)
+    (list_unlink s.history s.slots s.head s.next (get_or s.next e.slot 0) s.next e on.legal at on.slots on.list
+    (at_head s.history s.slots s.head s.next e (get_or s.next e.slot 0) on.legal on.slots on.list at first))
     (links_detach s.history s.slots s.head s.next s.next s.begins e on.legal at on.slots on.list (λ u f x y. refl) on.frozen_links)
     counts references drivers
 unlink_own s e (Some p) on at rest is counts references drivers =
     let size : length s.next ≡ length s.slots = on.shape.links ∙ sym on.shape.slots in
     let g = before_leads s.slots s.next e.slot p size is in
-    let off : s.head ≡ suc e.slot → ⊥ = head_leads_on s.history s.slots s.head s.next e g.0 p on.slots on.list at g.1 g.2 in
     let kept : (u : ℕ) (f : Entry) → IsIn f (slot_at s.slots u) → ((slot_at s.slots u ≡ Live f) → (u ≡ e.slot)) → get_or (set s.next p (get_or s.next e.slot 0)) u 0 ≡ get_or s.next u 0
     = λ u f x only. get_or-set_other s.next p u (get_or s.next e.slot 0) 0 (λ same. either x
     (λ live.
     let word : get_or s.next e.slot 0 ≡ suc e.slot = ap (λ (k : ℕ). get_or s.next k 0) (sym (only live) ∙ same) ∙ g.2 in
-    omega (arith, (link_to s.history s.slots e e.number (get_or s.next e.slot 0) on.slots at word (on.list.links e.slot e at)).0))
+    omega (arith, (link_to s.history s.slots e (rank_at s.history e.number) (get_or s.next e.slot 0) on.slots at word (on.list.links e.slot e at)).0))
     (λ gone. let q : Live g.0 ≡ Retired f = sym g.1 ∙ (ap (slot_at s.slots) (sym same) ∙ gone) in cc)) in
     fit_unlinked s e s.head (set s.next p (get_or s.next e.slot 0)) on at rest (length-set s.next p (get_or s.next e.slot 0))
-    (list_unlink_mid s.history s.slots s.head s.next e g.0 p at on.slots size off g.1 g.2 on.list)
+    (list_unlink s.history s.slots s.head s.next s.head (set s.next p (get_or s.next e.slot 0)) e on.legal at on.slots on.list
+    (at_link s.history s.slots s.head s.next e g.0 p (get_or s.next e.slot 0) on.legal on.slots on.list size at g.1 g.2))
     (links_detach s.history s.slots s.head s.next (set s.next p (get_or s.next e.slot 0)) s.begins e on.legal at on.slots on.list kept on.frozen_links)
     counts references drivers
 

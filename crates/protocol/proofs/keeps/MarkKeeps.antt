@@ -4,14 +4,14 @@ use Rattle.std.proofs.lemmas.Bool.{and_parts, cases_lt, eqb-true, or_cases}
 use Rattle.std.proofs.lemmas.List.{get_or_past, length-replicate}
 use Rattle.std.proofs.lemmas.Option.{none-some}
 use Rattle.std.specs.Prelude.{IsTrue, is_none, nat_lt, ◌==◌}
-use Rattle.protocol.proofs.History.{at_empty}
+use Rattle.protocol.proofs.History.{at_empty, empty_brings, empty_ends}
 use Rattle.protocol.proofs.keeps.ListKeeps.{CountsOf, DriversOf, ReferencesOf, cell_sized, live_count_put}
 use Rattle.protocol.proofs.keeps.Marking.{held_vacate, list_all_within, marks_look, marks_snapshot, marks_vacate, marks_write, slots_vacate, snapshots_marked, snapshots_taken, found_not_passed, passive_counted, passive_marked, passive_vacate, vacated_before}
 use Rattle.protocol.proofs.keeps.Linking.{within_retired}
 use Rattle.protocol.specs.Common.{after_add, after_kept_sub, after_look, after_look_passive, after_snapshot, after_sub, after_vacate, is_drainable, is_drained, is_idle, is_number, is_snapshot_due, may_add, may_examine, may_look_passive, may_sub, may_vacate, snapshot_mark, AreRows, DueHolds, Holds, SnapshotsStand, To_end, at_rest, State, found_at, kept_at, mark_at, opening, passive_at, trying_at, trying_of, section_at, total_at, Rest, Snapshots, Empty, IsSeenInHand, IsLegal, SlotsShow, MarksHold, IsIn}
 use Rattle.registry_values.specs.Common.{mark_after_passive_look, mark_after_look, are_collected, has_changed, have_passed, is_clear, is_collected, is_even, is_passed, no_mark, are_fit, is_retired, live_count, slot_of, slot_at, bias}
 use Rattle.registry_values.proofs.Fit.{ranges}
-use Rattle.protocol.specs.Types.{Attach, Entry, Settings, MOST_CPUS, Mark, Live, Retired, Vacant}
+use Rattle.protocol.specs.Types.{Attach, Replace, Entry, Settings, MOST_CPUS, Mark, Live, Retired, Vacant}
 use Rattle.protocol.proofs.Occupied.{retired_one, not_vacant, slot_has, is_retired_tells, at_rest_tells}
 use Rattle.protocol.proofs.keeps.References.{snapshot_due_tells}
 use Rattle.protocol.proofs.keeps.SectionKeeps.{idle_tells}
@@ -192,10 +192,20 @@ rows_all (suc n) row size zero lt = size
 rows_all (suc n) row size (suc t) lt = rows_all n row size t (omega arith)
 
 legal_opening : IsLegal []
-legal_opening = grind (arith, at_empty)
+legal_opening = record {
+  numbered = λ k e x. absurd (empty_brings k e x);
+  new_key = λ k e f x live same. at_empty (suc k) (Attach e) x;
+  new_slot = λ k e f x live same. empty_brings (suc k) e x;
+  ends_live = λ k n x. absurd (empty_ends n (suc k) x);
+  alike = λ k n r e f x live same. absurd (at_empty (suc k) (Replace n r e) x);
+}
 
 slots_opening : (z : Settings) → SlotsShow (opening z).history (opening z).slots
-slots_opening z = grind (arith, at_empty, get_or_all)
+slots_opening z = record {
+  live = λ t e is. absurd (let q : Vacant ≡ Live e = sym (get_or_all z.slots Vacant t) ∙ is in cc);
+  placed = λ e live. absurd (empty_brings e.number e live.attached);
+  retired = λ t e is. absurd (let q : Vacant ≡ Retired e = sym (get_or_all z.slots Vacant t) ∙ is in cc);
+}
 
 grace_opening : (z : Settings) → MarksHold (opening z).history (opening z).slots (opening z).marks (opening z).section (opening z).begins
 grace_opening z = grind (arith, get_or_all)
@@ -213,10 +223,10 @@ opening_holds z fit counts references drivers =
       slots = slots_opening z;
       rows = λ t e is. absurd (not_vacant e (slot_at (replicate z.slots Vacant) t) (get_or_all z.slots Vacant t) is);
       list = record {
-        first = To_end (λ f live lt. at_empty f.number (Attach f) live.attached);
+        first = To_end (λ f live lt. empty_brings f.number f live.attached);
         links = λ t e is. absurd (let q : Vacant ≡ Live e = sym (get_or_all z.slots Vacant t) ∙ is in cc);
       };
-      held = λ c b e is hold. absurd (at_empty e.number (Attach e) hold.attached);
+      held = λ c b e is hold. absurd (empty_brings e.number e hold.attached);
       frozen_links = λ t p c b e is. absurd (not_retired t e is);
       grace = grace_opening z;
       snapshots = λ t c e is. absurd (not_retired t e is);

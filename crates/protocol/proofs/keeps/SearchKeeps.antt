@@ -1,7 +1,8 @@
 -- Seek and the loads of a search keep the invariant, their answers are lawful, and what they do to the state.
-use Rattle.std.proofs.Common.{◌≡◌, ℕ, zero, suc, ◌<◌, List, length, get_or, set, Option, Some, None, Bool, true, false, sym, subst, ◌∙◌, arith, get_or-set_same, length-set, ◌≤◌}
+use Rattle.std.proofs.Common.{◌≡◌, ℕ, zero, suc, ◌<◌, List, length, get_or, set, Option, Some, None, Bool, true, false, sym, subst, ◌∙◌, arith, get_or-set_same, length-set, ◌≤◌, inr}
 use Rattle.std.proofs.lemmas.Bool.{and_parts}
 use Rattle.protocol.specs.Types.{Entry, Key, Change}
+use Rattle.protocol.specs.History.{rank_at}
 use Rattle.registry_values.specs.Common.{are_words_of}
 use Rattle.protocol.specs.Common.{Reply, Done, Word, Found, Missed, Ref, Collected, SearchPlace, AtHead, AtNext, AtNumber, AtKind, AtHigh, AtLow, AtValue, Search, MayHold, IsLawful, State, begin_at, seen_at, search_at, row_at, entry_with, loaded_of_name, Outcome, is_idle, is_inside, may_seek, after_seek, after_seeing, with_search_at, search_over, link_loaded, load_link, load_searched, outcome_of, StandsOn, PlaceHolds, SearchHolds, FoundHold, Holds, Keeps, Loaded, loaded_at, row_of_place}
 use Rattle.protocol.proofs.keeps.SectionKeeps.{seats_search, seated_search, some_from, idle_parts, see_keeps}
@@ -85,8 +86,9 @@ load_link_keeps s c q AtHead on is p =
     link_loaded_keeps s c (suc (length s.history)) q s.head on is (link_tells s c q.start (suc (length s.history)) s.head q.key on walk (head_ahead s q.start q.key on walk.by_now))
 load_link_keeps s c q (AtNext t) on is p =
     let walk : Walks s c q.start = search_walks s c q on is in
-    link_loaded_keeps s c p.0.number q (get_or s.next t 0) on is
-    (link_tells s c q.start p.0.number (get_or s.next t 0) q.key on walk (next_ahead s c q.start (seen_at s c) t q.key p.0 on walk (on.sections.prefix c) p.1 p.2))
+    link_loaded_keeps s c (rank_at s.history p.0.number) q (get_or s.next t 0) on is
+    (link_tells s c q.start (rank_at s.history p.0.number) (get_or s.next t 0) q.key on walk
+    (next_ahead s c q.start (seen_at s c) t q.key p.0 on walk (on.searches c q is).started (on.sections.prefix c) p.1 p.2))
 load_link_keeps s c q _ on is p = tt
 
 pub link_keeps : (s : State) (c : ℕ) (q : Search) → Holds s → search_at s c ≡ Some q → Keeps (load_link s c q q.place)
@@ -124,7 +126,7 @@ pub step_answers : (c : ℕ) (q : Search) (n : ℕ) (o : Option Outcome) → Ste
 step_answers c q n o steps = grind arith
 
 pub link_answers : (s : State) (c : ℕ) (q : Search) → Holds s → search_at s c ≡ Some q → AnswersLookup c q (load_link s c q q.place)
-link_answers s c q on is = step_answers c q (weight s q.place) (load_link s c q q.place) (load_link_steps s c q.start q q.place on (search_walks s c q on is) is (on.searches c q is).stands)
+link_answers s c q on is = step_answers c q (weight s q.place) (load_link s c q q.place) (load_link_steps s c q.start q q.place on (search_walks s c q on is) (inr (on.searches c q is).started) is (on.searches c q is).stands)
 
 pub record_answers : (s : State) (c : ℕ) (q : Search) → Holds s → search_at s c ≡ Some q → AnswersLookup c q (load_searched s c q q.place)
 record_answers s c q on is =
@@ -160,7 +162,7 @@ pub next_bound : (s : State) (c t : ℕ) (q : Search) → Holds s → search_at 
 next_bound s c t q on is at =
     let walk : Walks s c q.start = search_walks s c q on is in
     let p = subst (PlaceHolds s.history q.start (get_or s.seen c 0) q.key) at (on.searches c q is).stands in
-    let ahead = at_next_ahead s c q.start (get_or s.seen c 0) t q.key on walk (on.sections.prefix c) p in (
+    let ahead = at_next_ahead s c q.start (get_or s.seen c 0) t q.key on walk (on.searches c q is).started (on.sections.prefix c) p in (
       omega (arith, ahead.0, on.shape.links),
-      omega (arith, on.shape.slots, tells_bound s q.start p.0.number (get_or s.next t 0) q.key (link_tells s c q.start p.0.number (get_or s.next t 0) q.key on walk ahead.1)),
+      omega (arith, on.shape.slots, tells_bound s q.start (rank_at s.history p.0.number) (get_or s.next t 0) q.key (link_tells s c q.start (rank_at s.history p.0.number) (get_or s.next t 0) q.key on walk ahead.1)),
     )

@@ -3,10 +3,11 @@ use Rattle.std.proofs.Common.{◌≡◌, ℕ, zero, suc, ◌+◌, ◌*◌, ◌<�
 use Rattle.std.proofs.lemmas.Option.{same_Some, none-some}
 use Rattle.std.proofs.lemmas.List.{get_or_past}
 use Rattle.std.proofs.lemmas.Bool.{cases_lt, cases_eq, and_parts}
-use Rattle.protocol.specs.Types.{Entry, Change, Attach, Detach, Key}
+use Rattle.protocol.specs.Types.{Entry, Change, Key}
+use Rattle.protocol.specs.History.{rank_at}
 use Rattle.protocol.specs.Common.{Reply, Done, Word, Found, Missed, Ref, Collected, RecordWords, Loaded, SearchPlace, AtHead, AtNext, AtNumber, AtKind, AtHigh, AtLow, AtValue, Search, EndsAt, MayHold, IsLookup, IsLawful, State, row_at, seen_at, search_at, begin_at, Outcome, after_seeing, with_search_at, with_some, link_at, link_loaded, load_link, load_searched, outcome_of, words_of, SlotWithin, entry_with, loaded_at, loaded_of_name, row_of_place, IsIn, SearchHolds, SearchesHold, FoundHold, StandsOn, AllBelow, PlaceHolds, Holds}
 use Rattle.registry_values.specs.Common.{are_words_of, key_of, slot_at, kind_word}
-use Rattle.protocol.proofs.History.{at_within, one_entry, Ahead, No_more, One_more, step_ahead, all_below_later, found_lawful, missed_lawful, find_exact}
+use Rattle.protocol.proofs.History.{ended_within, rank_key, rank_low, Ahead, No_more, One_more, step_ahead, all_below_later, found_lawful, missed_lawful, find_exact}
 use Rattle.protocol.proofs.Occupied.{in_within}
 use Rattle.protocol.proofs.Either.{either}
 
@@ -78,35 +79,36 @@ place_within s c from to key (AtValue t n) on walk p = stands_within s c from to
 -- the head leads on
 pub head_ahead : (s : State) (from : ℕ) (key : Key) → Holds s → from ≤ length s.history → Ahead s.history from (length s.history) key (suc (length s.history)) s.head
 head_ahead s from key on le =
-    step_ahead s.history from (length s.history) (length s.history) (suc (length s.history)) key s.head le (omega arith)
-    (λ f live un same. omega (arith, (at_within s.history f.number (Attach f) live.attached).1))
+    step_ahead s.history on.legal from (length s.history) (length s.history) (suc (length s.history)) key s.head le (omega arith)
+    (λ f g lf lg rank same. omega (arith, rank_low s.history on.legal f.number, lf.begun, le))
     on.list.first
 
--- and so does the link of the walk's entry, a live one or a retired one, to a smaller number
-pub next_ahead : (s : State) (c from to t : ℕ) (key : Key) (e : Entry) → Holds s → Walks s c from → to ≤ length s.history
-    → StandsOn s.history from to t e → AllBelow s.history from to key e.number → Ahead s.history from (length s.history) key e.number (get_or s.next t 0)
-next_ahead s c from to t key e on walk le stands below =
-    let later : AllBelow s.history from (length s.history) key e.number = all_below_later s.history from to (length s.history) key e.number le below in
+-- and so does the link of the walk's entry, a live one or a retired one, to a lower rank
+pub next_ahead : (s : State) (c from to t : ℕ) (key : Key) (e : Entry) → Holds s → Walks s c from → from ≤ to → to ≤ length s.history
+    → StandsOn s.history from to t e → AllBelow s.history from to key (rank_at s.history e.number) → Ahead s.history from (length s.history) key (rank_at s.history e.number) (get_or s.next t 0)
+next_ahead s c from to t key e on walk lo le stands below =
+    let rank : ℕ = rank_at s.history e.number in
+    let later : AllBelow s.history from (length s.history) key rank = all_below_later s.history on.legal from to (length s.history) key rank lo le below in
     either (stands_in s c from to t e on walk stands)
     (λ live.
-    step_ahead s.history from (length s.history) (length s.history) e.number key (get_or s.next t 0) walk.by_now (omega arith) later (on.list.links t e live))
+    step_ahead s.history on.legal from (length s.history) (length s.history) rank key (get_or s.next t 0) walk.by_now (omega arith) later (on.list.links t e live))
     (λ gone.
     let end : (p : ℕ) × EndsAt s.history e.number p = (on.slots.retired t e gone).2 in
     let past : from < end.0 = stands.unended end.0 end.1 in
-    step_ahead s.history from end.0 (length s.history) e.number key (get_or s.next t 0)
-    (omega arith) (at_within s.history end.0 (Detach e.number) end.1).1 later
+    step_ahead s.history on.legal from end.0 (length s.history) rank key (get_or s.next t 0)
+    (omega arith) (ended_within s.history e.number end.0 end.1).1 later
     (on.frozen_links t end.0 c walk.begin e gone end.1 walk.open_since (omega (arith, walk.since))))
 
 -- the link at the place of a walk, and what it leads to
-pub at_next_ahead : (s : State) (c from to t : ℕ) (key : Key) → Holds s → Walks s c from → to ≤ length s.history → (p : PlaceHolds s.history from to key (AtNext t))
-    → (t < length s.next) × Ahead s.history from (length s.history) key p.0.number (get_or s.next t 0)
-at_next_ahead s c from to t key on walk le p =
+pub at_next_ahead : (s : State) (c from to t : ℕ) (key : Key) → Holds s → Walks s c from → from ≤ to → to ≤ length s.history → (p : PlaceHolds s.history from to key (AtNext t))
+    → (t < length s.next) × Ahead s.history from (length s.history) key (rank_at s.history p.0.number) (get_or s.next t 0)
+at_next_ahead s c from to t key on walk lo le p =
     let lt : t < length s.slots = stands_within s c from to t p.0 on walk p.1 in
-    (omega (arith, on.shape.slots, on.shape.links), next_ahead s c from to t key p.0 on walk le p.1 p.2)
+    (omega (arith, on.shape.slots, on.shape.links), next_ahead s c from to t key p.0 on walk lo le p.1 p.2)
 
--- a link that isn't the end leads to a slot in range, to a number below n, and the walk holds there
+-- a link that isn't the end leads to a slot in range, to a rank below n, and the walk holds there
 abbrev pub GoesTo : State → ℕ → Key → ℕ → ℕ → Type 0
-GoesTo s from key n t = (e : Entry) × StandsOn s.history from (length s.history) t e × AllBelow s.history from (length s.history) key (suc e.number) × (e.number < n) × (t < length s.slots)
+GoesTo s from key n t = (e : Entry) × StandsOn s.history from (length s.history) t e × AllBelow s.history from (length s.history) key (suc (rank_at s.history e.number)) × (rank_at s.history e.number < n) × (t < length s.slots)
 
 -- what a link tells: the end of the walk, or where it goes
 abbrev pub LinkTells : State → ℕ → Key → ℕ → ℕ → Type 0
@@ -120,12 +122,12 @@ link_tells s c from n _ key on walk (One_more e stands lt below) = (e, stands, b
 -- what is left of a walk at a place: it falls with each load
 abbrev pub weight : State → SearchPlace → ℕ
 weight s AtHead = 6 * (length s.history + 1)
-weight s (AtNext t) = 6 * (row_at s.rows t).number
-weight s (AtNumber t) = 6 * (row_at s.rows t).number + 5
-weight s (AtKind t n) = 6 * (row_at s.rows t).number + 4
-weight s (AtHigh t n k) = 6 * (row_at s.rows t).number + 3
-weight s (AtLow t n k x) = 6 * (row_at s.rows t).number + 2
-weight s (AtValue t n) = 6 * (row_at s.rows t).number + 1
+weight s (AtNext t) = 6 * rank_at s.history (row_at s.rows t).number
+weight s (AtNumber t) = 6 * rank_at s.history (row_at s.rows t).number + 5
+weight s (AtKind t n) = 6 * rank_at s.history (row_at s.rows t).number + 4
+weight s (AtHigh t n k) = 6 * rank_at s.history (row_at s.rows t).number + 3
+weight s (AtLow t n k x) = 6 * rank_at s.history (row_at s.rows t).number + 2
+weight s (AtValue t n) = 6 * rank_at s.history (row_at s.rows t).number + 1
 
 -- the search q, at another place
 abbrev pub placed : Search → SearchPlace → Search
@@ -159,28 +161,31 @@ search_placed s c q place is = get_or-set_same s.searches c (Some (placed q plac
 link_steps : (s : State) (c from : ℕ) (q : Search) (n x : ℕ) → Holds s → Walks s c from → search_at s c ≡ Some q → LinkTells s from q.key n x → Steps c from q (6 * n) (link_loaded s c q x)
 link_steps s c from q n zero on walk is tells = grind (arith, seen_now, searching_within)
 link_steps s c from q n (suc t) on walk is tells =
-    let number : (row_at s.rows t).number ≡ tells.0.number = ap (λ (r : RecordWords). r.number) (words_stand s c from (length s.history) t tells.0 on walk tells.1) in (
+    let number : (row_at s.rows t).number ≡ tells.0.number = ap (λ (r : RecordWords). r.number) (words_stand s c from (length s.history) t tells.0 on walk tells.1) in
+    let rank : rank_at s.history (row_at s.rows t).number ≡ rank_at s.history tells.0.number = ap (rank_at s.history) number in (
       AtNumber t,
       search_placed s c q (AtNumber t) is,
       subst (λ (to : ℕ). PlaceHolds s.history from to q.key (AtNumber t)) (sym (seen_now s c on (searching_within s c q on is))) (tells.0, tells.1, tells.2),
-      omega (arith, tells.3),
+      omega (arith, rank, tells.3),
     )
 
 -- LoadLink: the walk holds at the new place, and a miss is lawful.
-pub load_link_steps : (s : State) (c from : ℕ) (q : Search) (place : SearchPlace) → Holds s → Walks s c from → search_at s c ≡ Some q
+pub load_link_steps : (s : State) (c from : ℕ) (q : Search) (place : SearchPlace) → Holds s → Walks s c from → (place ≡ AtHead) ⊎ (from ≤ seen_at s c) → search_at s c ≡ Some q
     → PlaceHolds s.history from (seen_at s c) q.key place → Steps c from q (weight s place) (load_link s c q place)
-load_link_steps s c from q AtHead on walk is p =
+load_link_steps s c from q AtHead on walk seen is p =
     subst (λ (n : ℕ). Steps c from q (6 * n) (link_loaded s c q s.head)) (next_number (length s.history))
     (link_steps s c from q (suc (length s.history)) s.head on walk is (link_tells s c from (suc (length s.history)) s.head q.key on walk (head_ahead s from q.key on walk.by_now)))
   where
     next_number : (n : ℕ) → suc n ≡ n + 1
     next_number n = omega arith
-load_link_steps s c from q (AtNext t) on walk is p =
+load_link_steps s c from q (AtNext t) on walk seen is p =
     let number : (row_at s.rows t).number ≡ p.0.number = ap (λ (r : RecordWords). r.number) (words_stand s c from (seen_at s c) t p.0 on walk p.1) in
-    subst (λ (n : ℕ). Steps c from q (6 * n) (link_loaded s c q (get_or s.next t 0))) (sym number)
-    (link_steps s c from q p.0.number (get_or s.next t 0) on walk is
-    (link_tells s c from p.0.number (get_or s.next t 0) q.key on walk (next_ahead s c from (seen_at s c) t q.key p.0 on walk (on.sections.prefix c) p.1 p.2)))
-load_link_steps s c from q _ on walk is p = tt
+    let rank : ℕ = rank_at s.history p.0.number in
+    let low : from ≤ seen_at s c = either seen (λ head. absurd (let q : AtNext t ≡ AtHead = head in cc)) (λ lo. lo) in
+    subst (λ (n : ℕ). Steps c from q (6 * rank_at s.history n) (link_loaded s c q (get_or s.next t 0))) (sym number)
+    (link_steps s c from q rank (get_or s.next t 0) on walk is
+    (link_tells s c from rank (get_or s.next t 0) q.key on walk (next_ahead s c from (seen_at s c) t q.key p.0 on walk low (on.sections.prefix c) p.1 p.2)))
+load_link_steps s c from q _ on walk seen is p = tt
 
 -- Words and keys.
 pub key_from_words : (key : Key) (e : Entry) → are_words_of key (kind_word e.rec.kind) e.rec.name.high e.rec.name.low ≡ true → key ≡ key_of e
@@ -190,9 +195,16 @@ pub key_to_words : (key : Key) → are_words_of key (kind_word key.kind) key.nam
 key_to_words key = grind arith
 
 -- the walk's entry has another key: what is left is below it
-pub key_differs : (s : State) (from to t : ℕ) (key : Key) (e : Entry) → StandsOn s.history from to t e → AllBelow s.history from to key (suc e.number)
-    → are_words_of key (kind_word e.rec.kind) e.rec.name.high e.rec.name.low ≡ false → AllBelow s.history from to key e.number
-key_differs s from to t key e stands below test f live un same = grind (arith, one_entry, key_to_words, cases_lt f.number e.number)
+pub key_differs : (s : State) (from to t : ℕ) (key : Key) (e : Entry) → Holds s → StandsOn s.history from to t e → AllBelow s.history from to key (suc (rank_at s.history e.number))
+    → are_words_of key (kind_word e.rec.kind) e.rec.name.high e.rec.name.low ≡ false → AllBelow s.history from to key (rank_at s.history e.number)
+key_differs s from to t key e on stands below test f g lf lg rank same =
+    let top = below f g lf lg rank same in
+    either (cases_eq (rank_at s.history f.number) (rank_at s.history e.number))
+    (λ one.
+    let alike : key_of e ≡ key = sym (rank_key s.history on.legal f e lf.attached stands.attached one) ∙ same in
+    let own : are_words_of (key_of e) (kind_word e.rec.kind) e.rec.name.high e.rec.name.low ≡ true = key_to_words (key_of e) in
+    let clash : ◌≡◌ {A = Bool} true false = sym own ∙ (ap (λ (k : Key). are_words_of k (kind_word e.rec.kind) e.rec.name.high e.rec.name.low) alike ∙ test) in absurd cc)
+    (λ off. omega (arith, top, off))
 
 -- the walk is at exactly the entry that is returned
 pub found_is : (s : State) (c from to t n : ℕ) (q : Search) (e : Entry) → Holds s → Walks s c from → StandsOn s.history from to t e → n ≡ e.number → q.key ≡ key_of e
@@ -220,7 +232,7 @@ goes_on s c from to key (AtLow t n k x) on walk p =
     let row : row_at s.rows t ≡ words_of p.0 = words_stand s c from to t p.0 on walk p.1 in
     let test : are_words_of key (kind_word p.0.rec.kind) p.0.rec.name.high p.0.rec.name.low ≡ are_words_of key k x (row_at s.rows t).low =
     λ i. are_words_of key (sym p.4 i) (sym p.5 i) (sym row i).low in
-    (λ right. (p.0, p.1, p.3, key_from_words key p.0 (test ∙ right)), λ wrong. (p.0, p.1, key_differs s from to t key p.0 p.1 p.2 (test ∙ wrong)))
+    (λ right. (p.0, p.1, p.3, key_from_words key p.0 (test ∙ right)), λ wrong. (p.0, p.1, key_differs s from to t key p.0 on p.1 p.2 (test ∙ wrong)))
 goes_on s c from to key _ on walk p = tt
 
 -- what a found entry is
@@ -230,7 +242,7 @@ found_tells s c from to t n q on walk le p =
     let same : p.0 ≡ entry_with q.key t n (row_at s.rows t).value = found_is s c from to t n q p.0 on walk p.1 p.2 p.3 in
     found_lawful s.history on.legal from to t (entry_with q.key t n (row_at s.rows t).value) q.key le (subst (StandsOn s.history from to t) same p.1) refl
 
-compared_steps : (s : State) (c from : ℕ) (q : Search) (t n l left : ℕ) (b : Bool) → search_at s c ≡ Some q → left ≡ 6 * (row_at s.rows t).number + 2
+compared_steps : (s : State) (c from : ℕ) (q : Search) (t n l left : ℕ) (b : Bool) → search_at s c ≡ Some q → left ≡ 6 * rank_at s.history (row_at s.rows t).number + 2
     → (b ≡ true → PlaceHolds s.history from (seen_at s c) q.key (AtValue t n)) → (b ≡ false → PlaceHolds s.history from (seen_at s c) q.key (AtNext t))
     → Steps c from q left (outcome_of s c q (Some (loaded_of_name t n l b)))
 compared_steps s c from q t n l left true is weighs right wrong = (AtValue t n, search_placed s c q (AtValue t n) is, right refl, omega arith)
@@ -290,7 +302,7 @@ record_sees s c q place (inr all) = outcome_sees s c q (loaded_at q place (row_o
 
 pub find_link : (s : State) (c : ℕ) (q : Search) → Holds s → Finds s c q → FindSteps c q (weight s q.place) (load_link s c q q.place)
 find_link s c q on finds = find_steps s c q (weight s q.place) (load_link s c q q.place) (followed_sees s c q (link_at s q.place) on finds.searching)
-    (load_link_steps s c (length s.history) q q.place on (walks_now s c q on finds.searching) finds.searching finds.stands)
+    (load_link_steps s c (length s.history) q q.place on (walks_now s c q on finds.searching) (either finds.seen (λ head. inl head) (λ all. inr (omega (arith, all)))) finds.searching finds.stands)
 
 pub find_record : (s : State) (c : ℕ) (q : Search) → Holds s → Finds s c q → FindSteps c q (weight s q.place) (load_searched s c q q.place)
 find_record s c q on finds = either finds.seen

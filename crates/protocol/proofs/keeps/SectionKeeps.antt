@@ -1,12 +1,13 @@
 -- Seats, sections and notes keep the invariant.
-use Rattle.std.proofs.Common.{◌≡◌, ◌≢◌, ℕ, ◌+◌, ◌*◌, ◌<◌, ◌≤◌, List, length, get_or, set, Option, Some, None, true, sym, ◌∙◌, arith, get_or-set_same, get_or-set_other, ◌&&◌, is_none, is_some, nat_eq, nat_lt, length-set, ltb-true, eqb-true}
+use Rattle.std.proofs.Common.{◌≡◌, ◌≢◌, ℕ, suc, ◌+◌, ◌*◌, ◌<◌, ◌≤◌, List, length, get_or, set, Option, Some, None, true, sym, ◌∙◌, arith, get_or-set_same, get_or-set_other, ◌&&◌, is_none, is_some, nat_eq, nat_lt, length-set, ltb-true, eqb-true}
 use Rattle.std.proofs.lemmas.Option.{none-some, same_Some}
 use Rattle.std.proofs.lemmas.Bool.{cases_lt, cases_eq, and_parts}
-use Rattle.protocol.specs.Types.{Entry, Change, Attach, Detach, Settings, Slot, Retired, Mark, Key, Live}
+use Rattle.protocol.specs.Types.{Entry, Change, Settings, Slot, Retired, Mark, Key, Live}
+use Rattle.protocol.specs.History.{rank_at}
 use Rattle.registry_values.specs.Common.{slot_at}
-use Rattle.protocol.specs.Common.{SearchPlace, Search, Hand, Empty, mark_at, EndsAt, MayHold, SlotsShow, HeldStay, Leads, LinksStay, MarksHold, SectionsShow, SeatsShow, StandsOn, PlaceHolds, SearchHolds, SearchesHold, FoundHold, IsSeenInHand, TriesSeen, State, section_at, begin_at, depth_at, search_at, hand_at, is_empty, is_idle, is_outside, is_inside, may_recall, may_recall_head, may_refind, may_seat, after_seat, may_enter, after_enter, may_exit, after_exit, after_refind, after_seeing, is_honest, live_at, Holds}
+use Rattle.protocol.specs.Common.{SearchPlace, AtHead, AtNext, AtNumber, AtKind, AtHigh, AtLow, AtValue, IsLegal, Search, Hand, Empty, mark_at, EndsAt, MayHold, SlotsShow, HeldStay, Leads, LinksStay, MarksHold, SectionsShow, SeatsShow, StandsOn, PlaceHolds, SearchHolds, SearchesHold, FoundHold, IsSeenInHand, TriesSeen, State, section_at, begin_at, depth_at, search_at, hand_at, is_empty, is_idle, is_outside, is_inside, may_recall, may_recall_head, may_refind, may_seat, after_seat, may_enter, after_enter, may_exit, after_exit, after_refind, after_seeing, is_honest, live_at, Holds}
 use Rattle.protocol.proofs.Cells.{place_in, place_put}
-use Rattle.protocol.proofs.History.{at_within, all_below_later}
+use Rattle.protocol.proofs.History.{attached_within, ended_within, all_below_later}
 use Rattle.protocol.proofs.Either.{either}
 use Rattle.protocol.proofs.keeps.Searching.{found_some}
 
@@ -42,15 +43,15 @@ sections_enter z h section begins depths seen c cs cb cd cw out room s = grind (
 pub held_enter : (h : List Change) (slots : List Slot) (begins : List (Option ℕ)) (c : ℕ) → c < length begins → SlotsShow h slots → HeldStay h slots begins
     → HeldStay h slots (set begins c (Some (length h)))
 held_enter h slots begins c cb show held j b e =
-    grind (arith, cases_eq j c, get_or-set_same begins c (Some (length h)) None, get_or-set_other begins c j (Some (length h)) None, show.placed e, held j b e, at_within h e.number (Attach e))
+    grind (arith, cases_eq j c, get_or-set_same begins c (Some (length h)) None, get_or-set_other begins c j (Some (length h)) None, show.placed e, held j b e, attached_within h e, ended_within h e.number)
 
 -- no entry ends after a section that begins now
 none_ends : (h : List Change) (b p n : ℕ) → ◌≡◌ {A = Option ℕ} (Some (length h)) (Some b) → EndsAt h n p → p ≤ b
-none_ends h b p n is ends = omega (arith, same_Some (length h) b is, (at_within h p (Detach n) ends).1)
+none_ends h b p n is ends = omega (arith, same_Some (length h) b is, (ended_within h n p ends).1)
 
 pub links_enter : (h : List Change) (slots : List Slot) (next : List ℕ) (begins : List (Option ℕ)) (c : ℕ) → c < length begins → LinksStay h slots next begins
     → LinksStay h slots next (set begins c (Some (length h)))
-links_enter h slots next begins c cb links t p j b e gone ends = place_put None begins c (Some (length h)) (λ i x. x ≡ Some b → b < p → Leads h p e.number (get_or next t 0)) j
+links_enter h slots next begins c cb links t p j b e gone ends = place_put None begins c (Some (length h)) (λ i x. x ≡ Some b → b < p → Leads h p (rank_at h e.number) (get_or next t 0)) j
     (λ is lt. absurd (omega (arith, lt, none_ends h b p e.number is ends))) (links t p j b e gone ends)
 
 -- a word that grows is above what it was at each snapshot
@@ -109,8 +110,14 @@ sections_see z h section begins depths seen c cs s = assumption (
 pub stands_later : (h : List Change) (from to later t : ℕ) (e : Entry) → to ≤ later → StandsOn h from to t e → StandsOn h from later t e
 stands_later h from to later t e le on = record { attached = on.attached; at = on.at; begun = omega (arith, on.begun); unended = on.unended }
 
-pub place_later : (h : List Change) (from to later : ℕ) (key : Key) (place : SearchPlace) → to ≤ later → PlaceHolds h from to key place → PlaceHolds h from later key place
-place_later h from to later key place le p = grind (arith, stands_later, all_below_later)
+pub place_later : (h : List Change) → IsLegal h → (from to later : ℕ) (key : Key) (place : SearchPlace) → from ≤ to → to ≤ later → PlaceHolds h from to key place → PlaceHolds h from later key place
+place_later h legal from to later key AtHead lo le p = tt
+place_later h legal from to later key (AtNext t) lo le p = (p.0, stands_later h from to later t p.0 le p.1, all_below_later h legal from to later key (rank_at h p.0.number) lo le p.2)
+place_later h legal from to later key (AtNumber t) lo le p = (p.0, stands_later h from to later t p.0 le p.1, all_below_later h legal from to later key (suc (rank_at h p.0.number)) lo le p.2)
+place_later h legal from to later key (AtKind t n) lo le p = (p.0, stands_later h from to later t p.0 le p.1, all_below_later h legal from to later key (suc (rank_at h p.0.number)) lo le p.2, p.3)
+place_later h legal from to later key (AtHigh t n k) lo le p = (p.0, stands_later h from to later t p.0 le p.1, all_below_later h legal from to later key (suc (rank_at h p.0.number)) lo le p.2, p.3, p.4)
+place_later h legal from to later key (AtLow t n k x) lo le p = (p.0, stands_later h from to later t p.0 le p.1, all_below_later h legal from to later key (suc (rank_at h p.0.number)) lo le p.2, p.3, p.4, p.5)
+place_later h legal from to later key (AtValue t n) lo le p = (p.0, stands_later h from to later t p.0 le p.1, p.2, p.3)
 
 -- a number that is tried stays seen
 seen_later : (from to : ℕ) (h : Hand) → from ≤ to → IsSeenInHand from h → IsSeenInHand to h
@@ -124,12 +131,12 @@ tries_see h seen hands c prefix hold d =
 pub tries_hand : (seen : List ℕ) (hands : List Hand) (c : ℕ) (h : Hand) → IsSeenInHand (get_or seen c 0) h → TriesSeen seen hands → TriesSeen seen (set hands c h)
 tries_hand seen hands c h now hold d = place_put Empty hands c h (λ i x. IsSeenInHand (get_or seen i 0) x) d now (hold d)
 
-pub searches_see : (z : Settings) (h : List Change) (section : List ℕ) (begins : List (Option ℕ)) (depths seen : List ℕ) (searches : List (Option Search)) (c : ℕ) → c < length seen
+pub searches_see : (z : Settings) (h : List Change) → IsLegal h → (section : List ℕ) (begins : List (Option ℕ)) (depths seen : List ℕ) (searches : List (Option Search)) (c : ℕ) → c < length seen
     → SectionsShow z h section begins depths seen → SearchesHold h begins seen searches → SearchesHold h begins (set seen c (length h)) searches
-searches_see z h section begins depths seen searches c cw s hold j q = place_put 0 seen c (length h) (λ i y. get_or searches i None ≡ Some q → SearchHolds h (get_or begins i None) y q) j
+searches_see z h legal section begins depths seen searches c cw s hold j q = place_put 0 seen c (length h) (λ i y. get_or searches i None ≡ Some q → SearchHolds h (get_or begins i None) y q) j
     (λ is.
     let was = hold c q is in
-    record { begun = was.begun; started = omega (arith, was.started, s.prefix c); stands = place_later h q.start (get_or seen c 0) (length h) q.key q.place (s.prefix c) was.stands })
+    record { begun = was.begun; started = omega (arith, was.started, s.prefix c); stands = place_later h legal q.start (get_or seen c 0) (length h) q.key q.place was.started (s.prefix c) was.stands })
     (hold j q)
 
 -- Seats, sections and notes keep the invariant.
@@ -210,7 +217,7 @@ see_keeps s c on lt =
     assumption (
       length-set s.seen c (length s.history) ∙ on.shape.seen,
       sections_see s.settings s.history s.section s.begins s.depths s.seen c cw on.sections,
-      searches_see s.settings s.history s.section s.begins s.depths s.seen s.searches c cw on.sections on.searches,
+      searches_see s.settings s.history on.legal s.section s.begins s.depths s.seen s.searches c cw on.sections on.searches,
       tries_see s.history s.seen s.hands c on.sections.prefix on.tries,
     )
 

@@ -6,7 +6,7 @@ use Rattle.protocol.specs.Types.{Settings, MOST_CPUS, Vacant}
 use Rattle.protocol.specs.Common.{Event, Confirm, Reply, Empty, Trying, State, opening, total_at, hand_at, is_iface_slot, is_drained, local_at, Outcome, step, Run, run_with_event, run_of_events, empty_run, Holds, Model, empty_model, IsModelRun, Stays, passive_in, lookup_of, number_in, picture, Confirms, EveryRunIsModelRun, HasConfirm}
 use Rattle.registry_values.specs.Common.{bias, slot_at, slot_of}
 use Rattle.protocol.specs.Events
-use Rattle.protocol.proofs.Made.{Made, Enters, Exits, Seeks, LoadsEnd, LoadsSlot, LoadsWord, LoadsLast, Publishes, Unpublishes, Hears, Snaps, AddsPassive, SubsPassive, Counts, Splits, Joins, CountsDown, made, FindsCollected, SplitsBack, Collects, AddsTotal, JoinsKeeper, SubsTotal, KeepsDriver, SubsKept, Vacates, Recalls, RecallsHead, Refinds, Tries, ConfirmsTry, TakesBack}
+use Rattle.protocol.proofs.Made.{Made, Enters, Exits, Seeks, LoadsEnd, LoadsSlot, LoadsWord, LoadsLast, Publishes, Unpublishes, Republishes, Hears, Snaps, AddsPassive, SubsPassive, Counts, Splits, Joins, CountsDown, made, FindsCollected, SplitsBack, Collects, AddsTotal, JoinsKeeper, SubsTotal, KeepsDriver, SubsKept, Vacates, Recalls, RecallsHead, Refinds, Tries, ConfirmsTry, TakesBack}
 use Rattle.protocol.proofs.Occupied.{at_rest_tells}
 use Rattle.protocol.proofs.keeps.References.{standing_tells}
 use Rattle.protocol.proofs.keeps.Keeping.{step_keeps, turned_keeps, opening_holds}
@@ -17,7 +17,7 @@ use Rattle.protocol.proofs.Cells.{get_or_all}
 use Rattle.protocol.proofs.counts.Sums.{number_of, no_hand}
 use Rattle.protocol.proofs.model.RefiningSections.{same_model, join_runs, widen_run, enter_refines, exit_refines, seeing_refines, refind_refines, seek_refines, missed_refines, followed_refines, going_on_alike, no_step, over_refines}
 use Rattle.protocol.proofs.model.RefiningReferences.{confirm_refines, take_back_refines, try_refines, add_refines, sub_refines, count_add_refines, split_refines, join_refines, count_down_refines, collected_refines, split_back_refines, snapshot_refines, collect_refines, total_add_refines, total_sub_refines, join_keeper_refines}
-use Rattle.protocol.proofs.model.RefiningEntries.{publish_refines, retiring_refines, keep_refines, vacate_refines, kept_sub_refines}
+use Rattle.protocol.proofs.model.RefiningEntries.{publish_refines, republish_refines, retiring_refines, keep_refines, vacate_refines, kept_sub_refines}
 use Rattle.protocol.proofs.keeps.SectionKeeps.{idle_tells, recall_head_tells, recall_tells}
 
 -- the Confirm of an entry that is live is allowed
@@ -36,6 +36,7 @@ made_refines s _ _ _ on now (LoadsWord c w q p at is) = no_step _ _ (going_on_al
 made_refines s _ _ _ on now (LoadsLast c q e at is) = over_refines s c q (Some e) on at (subst (AnswersLookup c q) is (record_answers s c q on at))
 made_refines s _ _ _ on now (Publishes t e of may) = publish_refines s t e on now of may
 made_refines s _ _ _ on now (Unpublishes t head next e at rest is) = retiring_refines s t e on (at_rest_tells s.due rest) at now.legal now.slots
+made_refines s _ _ _ on now (Republishes t u head next e f of at may is) = republish_refines s t u e f on of at may
 made_refines s _ _ _ on now (Hears c may) = seeing_refines s c on (idle_tells s c on may).0
 made_refines s _ _ _ on now (Snaps t c due) = snapshot_refines s t c due
 made_refines s _ _ _ on now (AddsPassive c n t of may) = add_refines s c n t on of may

@@ -6,6 +6,9 @@ use Rattle.protocol.specs.Types.{Entry, Change, Attach, Detach, Slot, Vacant, Li
 use Rattle.protocol.specs.Common.{Free, Standing, Due, Rest, after_change, IsLegal, EndsAt, State, row_at, passive_at, kept_at, local_at, may_write, entry_of, may_publish, after_publish, with_retired, is_driver_slot, may_keep, after_keep, is_drained, after_kept_sub, may_vacate, after_vacate, Holds, IsIn, SlotsShow, held_at, standing_of, in_hand, put, IsUnheld, IsDriverHere, IsModelRun, number_in, passive_in, Hand, trying_at, subtractions_due, locals_of, picture, TakesNone}
 use Rattle.registry_values.specs.Common.{slot_at, slot_of}
 use Rattle.protocol.specs.Model
+use Rattle.protocol.specs.History.{rank_at}
+use Rattle.protocol.specs.Common.{may_republish, with_replaced, trying_at}
+use Rattle.protocol.proofs.keeps.Replacing.{IsSwap, MaySwap, after_swap, legal_swap, may_republish_tells, old_still, old_within, slots_swap}
 use Rattle.protocol.proofs.keeps.Searching.{within_some}
 use Rattle.protocol.proofs.Occupied.{in_other, in_written, not_vacant, live_one, in_within, in_published, in_unpublished, in_vacated, attached_in, slot_has}
 use Rattle.protocol.proofs.Cells.{slot_number}
@@ -95,6 +98,41 @@ retiring_refines s t e on rest at legal later =
       λ (n : ℕ). ap (λ (w : ℕ). sum_by (standing_of n) s.locals + sum_by (in_hand n) s.hands + w) (waiting_rest s.slots n s.due rest),
       unwritten number_in Vacant s.slots t (Retired e) (ap number_in at),
     ))
+
+swap_refines : (s : State) (f e : Entry) → Holds s → IsSwap s f e → IsModelRun TakesNone (picture s) (picture (with_replaced s e.slot f.slot e f))
+swap_refines s f e on is =
+    let m : MaySwap s.history s.slots f e = is.swap in
+    let slots : List Slot = set s.slots e.slot (Live e) in
+    let still : slot_at slots f.slot ≡ Live f = old_still s.history s.slots f e m in
+    let lt : f.slot < length slots = old_within s.history s.slots f e m in
+    let unheld : (c : ℕ) → passive_at s.passive c e.slot - trying_at s.hands c e.slot ≡ 0 = λ c. omega (arith, on.passive.vacant c e.slot m.vacant) in
+    one_step (picture s) _ (picture (with_replaced s e.slot f.slot e f))
+    (Model.Replaces f.number (rank_at s.history f.number) e (ap number_in m.vacant) (legal_swap s.history s.slots f e m) m.number is.rightly) (assumption (
+      λ (c : ℕ) (n : ℕ). passive_moved s.history (after_swap s.history f e) s.slots (set slots f.slot (Retired f)) s.passive s.hands c n on.slots (slots_swap s.history s.slots f e m)
+          (λ u at.
+          let there : IsIn at.0 (slot_at slots u) = in_other s.slots e.slot (Live e) at.0 u (λ same. not_vacant at.0 (slot_at s.slots u) (ap (slot_at s.slots) same ∙ m.vacant) at.1) at.1 in
+          inl (at.0, retired_in slots f at.0 u still there, at.2))
+          (λ u at. either (in_published s.slots e.slot u e at.0 m.within (in_unpublished slots f.slot u f at.0 still at.1))
+          (λ new. inr (ap (λ (w : ℕ). passive_at s.passive c w - trying_at s.hands c w) new.0 ∙ unheld c))
+          (λ old. inl (at.0, old, at.2))),
+      λ (n : ℕ). ap (λ (w : ℕ). sum_by (standing_of n) s.locals + sum_by (in_hand n) s.hands + w) (waiting_rest s.slots n s.due is.rest),
+      λ (j : ℕ). written number_in Vacant s.slots e.slot (Live e) m.within j ∙ unwritten number_in Vacant slots f.slot (Retired f) (ap number_in still) j,
+    ))
+  where
+    retired_in : (slots : List Slot) (f g : Entry) (u : ℕ) → slot_at slots f.slot ≡ Live f → IsIn g (slot_at slots u) → IsIn g (slot_at (set slots f.slot (Retired f)) u)
+    retired_in slots f g u at there = either (cases_eq u f.slot)
+        (λ same.
+        let one : g ≡ f = live_one g f (slot_at slots f.slot) at (subst (λ (k : ℕ). IsIn g (slot_at slots k)) same there) in
+        subst (λ (i : Entry). IsIn i (slot_at (set slots f.slot (Retired f)) u)) (sym one)
+        (subst (λ (k : ℕ). IsIn f (slot_at (set slots f.slot (Retired f)) k)) (sym same) (in_written slots f.slot (Retired f) f (in_within slots f.slot f (inl at)) (inr refl))))
+        (λ off. in_other slots f.slot (Retired f) g u off there)
+
+pub republish_refines : (s : State) (t u : ℕ) (e f : Entry) → Holds s → entry_of t (row_at s.rows t) ≡ Some e → slot_at s.slots u ≡ Live f → may_republish s t u e f ≡ true
+    → IsModelRun TakesNone (picture s) (picture (with_replaced s t u e f))
+republish_refines s t u e f on of at may =
+    let told = may_republish_tells s t u e f on of at may in
+    subst (λ (k : ℕ). IsModelRun TakesNone (picture s) (picture (with_replaced s k u e f))) told.0
+    (subst (λ (k : ℕ). IsModelRun TakesNone (picture s) (picture (with_replaced s e.slot k e f))) told.1 (swap_refines s f e on told.2))
 
 -- Keep
 

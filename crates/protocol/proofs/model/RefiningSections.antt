@@ -3,7 +3,7 @@ use Rattle.std.proofs.Common.{◌≡◌, ℕ, ◌<◌, List, length, get_or, set
 use Rattle.std.proofs.lemmas.Bool.{cases_eq, eq-eqb, ne_eqb, and_parts}
 use Rattle.protocol.specs.Types.{Entry, Key, Live}
 use Rattle.registry_values.specs.Common.{key_of, slot_at}
-use Rattle.protocol.specs.Common.{put, Model, IsModelStep, IsModelRun, Stays, Goes_on, Enters, Exits, Sees, Seeks, Answers, Attaches, Detaches, Acquires, Copies, Releases, Takes, Counts, Uncounts, Vacates, Gives_up, SearchPlace, AtHead, AtNumber, Search, IsLawful, State, section_at, begin_at, depth_at, seen_at, search_at, is_idle, is_outside, is_inside, after_refind, may_refind, may_enter, after_enter, may_exit, after_exit, after_seeing, may_seek, after_seek, with_search_at, search_over, Holds, lookup_of, picture, TakesNone}
+use Rattle.protocol.specs.Common.{put, Model, IsModelStep, IsModelRun, Stays, Goes_on, Enters, Exits, Sees, Seeks, Answers, Attaches, Detaches, Replaces, Acquires, Copies, Releases, Takes, Counts, Uncounts, Vacates, Gives_up, SearchPlace, AtHead, AtNumber, Search, IsLawful, State, section_at, begin_at, depth_at, seen_at, search_at, is_idle, is_outside, is_inside, after_refind, may_refind, may_enter, after_enter, may_exit, after_exit, after_seeing, may_seek, after_seek, with_search_at, search_over, Holds, lookup_of, picture, TakesNone}
 use Rattle.protocol.specs.Model.{Keeps}
 use Rattle.protocol.specs.Model
 use Rattle.protocol.proofs.Occupied.{written_cases}
@@ -53,6 +53,7 @@ widen_step wide m _ (Seeks c b key in_ none) = Seeks c b key in_ none
 widen_step wide m _ (Answers c q answer is lawful) = Answers c q answer is lawful
 widen_step wide m _ (Attaches e vacant legal number rightly) = Attaches e vacant legal number rightly
 widen_step wide m _ (Detaches n legal) = Detaches n legal
+widen_step wide m _ (Replaces n r e vacant legal number rightly) = Replaces n r e vacant legal number rightly
 widen_step wide m _ (Keeps t d vacant none here some) = Keeps t d vacant none here some
 widen_step wide m _ (Acquires c e found) = Acquires c e found
 widen_step wide m _ (Copies c n some) = Copies c n some

@@ -1,11 +1,12 @@
 -- The result of each lookup is lawful, and a search has its start from its Seek on.
 use Rattle.std.proofs.Common.{◌≡◌, ℕ, ◌≤◌, inl, List, [], ◌∷◌, ◌++◌, length, get_or, set, Option, Some, None, refl, sym, ◌∙◌, arith}
 use Rattle.std.proofs.lemmas.Option.{none-some, same_Some}
-use Rattle.protocol.specs.Types.{Entry, Change, Attach, Detach, Key}
+use Rattle.protocol.specs.Types.{Entry, Change, Attach, Detach, Replace, Key}
+use Rattle.protocol.specs.History.{rank_at}
 use Rattle.protocol.specs.Common.{Event, Reply, Search, SearchPlace, AtNumber, IsLawful, State, opening, seen_at, search_at, Outcome, step, state_after, Holds, after, after_event, answer_of, IsAnswered, HasBegun, AnswersLawfully, LawfulAnswers}
 use Rattle.protocol.proofs.Occupied.{written_cases}
 use Rattle.protocol.proofs.keeps.SearchKeeps.{IsAnswer, link_answers, record_answers}
-use Rattle.protocol.proofs.Made.{Made, Enters, Seeks, LoadsEnd, LoadsSlot, LoadsWord, LoadsLast, Publishes, Unpublishes, Hears, Recalls, RecallsHead, Refinds, ConfirmsTry, made, each_event}
+use Rattle.protocol.proofs.Made.{Made, Enters, Seeks, LoadsEnd, LoadsSlot, LoadsWord, LoadsLast, Publishes, Unpublishes, Republishes, Hears, Recalls, RecallsHead, Refinds, ConfirmsTry, made, each_event}
 use Rattle.protocol.proofs.runs.Reuse.{every_run_keeps}
 use Rattle.protocol.proofs.Either.{either}
 use Rattle.std.proofs.lemmas.List.{append-nil}
@@ -73,6 +74,7 @@ history : (s n : State) (e : Event) (r : Reply) → Made s e n r → Grows s.his
 unfolding Grows
 history s _ _ _ (Publishes t e of may) = (Attach e ∷ [], refl)
 history s _ _ _ (Unpublishes t head next e at rest is) = (Detach e.number ∷ [], refl)
+history s _ _ _ (Republishes t u head next e f of at may is) = (Replace f.number (rank_at s.history f.number) e ∷ [], refl)
 history s _ _ _ _ = grown_none s.history
 
 pub history_grows : (s : State) (e : Event) → (more : List Change) × ((after_event s e).history ≡ s.history ++ more)

@@ -1,19 +1,22 @@
 -- Fresh lookups: a search goes on from the history as it was at its Seek, whatever other events come between.
-use Rattle.std.proofs.Common.{◌≡◌, ℕ, suc, ◌<◌, ◌≤◌, ◌⊎◌, inl, List, [], ◌∷◌, ◌++◌, length, get_or, set, Option, Some, None, Bool, true, refl, sym, ap, subst, ◌∙◌, arith, get_or-set_other, get_or-set_same, IsSome, append_assoc}
+use Rattle.std.proofs.Common.{◌≡◌, ℕ, zero, suc, ◌<◌, ◌≤◌, ◌⊎◌, inl, inr, List, [], ◌∷◌, ◌++◌, length, get_or, set, Option, Some, None, Bool, true, refl, sym, ap, subst, ◌∙◌, arith, get_or-set_other, get_or-set_same, IsSome, append_assoc}
 use Rattle.std.proofs.lemmas.Bool.{and_parts, cases_eq}
 use Rattle.std.proofs.lemmas.List.{append-nil}
 use Rattle.std.proofs.lemmas.Option.{none-some, same_Some}
-use Rattle.protocol.specs.Types.{Entry, Change, Attach, Detach, Key, Slot, Live}
+use Rattle.protocol.specs.Types.{Entry, Change, Attach, Detach, Replace, Key, Slot, Live}
 use Rattle.protocol.specs.Common.{Leads, IsNewestAt, RecallsNewest, NewestRecalls, Refind, after_refind, found_at, may_recall_head, may_refind, refind, Event, Reply, Done, Word, Search, SearchPlace, AtHead, AtNumber, EndsAt, IsLiveAt, IsLawful, IsLegal, IsLookup, State, opening, seen_at, search_at, begin_at, Outcome, step, state_after, guard, is_idle, is_inside, may_seek, may_recall, may_confirm, confirm, is_honest, has_live, live_at, hand_at, Hand, Trying, IsAttached, after_confirm, after_seek, after_seeing, after_change, with_some, load_link, load_searched, some_outcome, Holds, PlaceHolds, after, after_event, IsAllowed, IsLoadOf, answer_of, seek_for, IsNoSeek, SeeksNone, AnswersFreshly, SeesAll, RecallsLive, FreshAnswers, WholePasses, LiveRecalls}
-use Rattle.protocol.specs.History.{change_at}
+use Rattle.protocol.specs.History.{rank_at}
 use Rattle.registry_values.specs.Common.{key_of, slot_at}
-use Rattle.protocol.proofs.History.{at_within, at_prefix, one_entry, one_live, length-after_change, place_old}
+use Rattle.protocol.specs.Common.{To_end, To_entry}
+use Rattle.protocol.proofs.History.{rank_low, attached_within, ended_within, one_entry, one_live, length-after_change, place_old}
 use Rattle.protocol.proofs.keeps.Keeping.{step_keeps, after_keeps}
 use Rattle.protocol.proofs.keeps.SectionKeeps.{idle_parts, recall_head_tells, recall_tells, refind_tells, some_from}
 use Rattle.protocol.proofs.keeps.CountKeeps.{confirm_tells, live_tells, tried_seen, trying_tells}
 use Rattle.protocol.proofs.keeps.Searching.{Walks, Steps, IsStep, load_link_steps, load_searched_steps, weight, placed, within_some, seen_now, searching_within}
 use Rattle.protocol.proofs.runs.Answers.{history_grows}
-use Rattle.protocol.proofs.Made.{Made, Enters, Exits, Seeks, LoadsEnd, LoadsSlot, LoadsWord, LoadsLast, Publishes, Unpublishes, Hears, Recalls, RecallsHead, Refinds, ConfirmsTry, each_event}
+use Rattle.protocol.proofs.runs.Points.{attached_grown, ends_grown, live_then}
+use Rattle.protocol.proofs.runs.Replacing.{never_missed}
+use Rattle.protocol.proofs.Made.{Made, Enters, Exits, Seeks, LoadsEnd, LoadsSlot, LoadsWord, LoadsLast, Publishes, Unpublishes, Republishes, Hears, Recalls, RecallsHead, Refinds, ConfirmsTry, each_event}
 use Rattle.protocol.proofs.Cells.{by_place}
 use Rattle.protocol.proofs.runs.Steps.{after_more}
 use Rattle.protocol.proofs.runs.Reuse.{every_run_keeps}
@@ -44,8 +47,17 @@ going_same s n c from key history begin seen search going q is = goes_same s n c
 
 -- one change more
 going_changed : (s n : State) (x : Change) (c from : ℕ) (key : Key) → n.history ≡ after_change s.history x → begin_at n c ≡ begin_at s c → seen_at n c ≡ seen_at s c → search_at n c ≡ search_at s c
-    → Going s c from key → Going n c from key
-going_changed s n x c from key history begin seen search going q is = grind (arith, length-after_change, place_with, place_old)
+    → seen_at s c ≤ length s.history → Going s c from key → Going n c from key
+going_changed s n x c from key history begin seen search low going q is =
+    let was : Goes s c from key q = going q (sym search ∙ is) in
+    let size : length n.history ≡ suc (length s.history) = ap (λ (l : List Change). length l) history ∙ length-after_change s.history x in
+    record {
+      sought = was.sought;
+      walk = record { begin = was.walk.begin; open_since = begin ∙ was.walk.open_since; since = was.walk.since; by_now = omega (arith, was.walk.by_now, size) };
+      stands = place_with (after_change s.history x) n.history from (seen_at s c) (seen_at n c) q.key q.place (sym history) (sym seen)
+          (place_old s.history x from (seen_at s c) q.key q.place was.walk.by_now low was.stands);
+      seen = either was.seen (λ head. inl head) (λ lo. inr (omega (arith, lo, seen)));
+    }
 
 -- no search is under way
 going_none : (s : State) (c from : ℕ) (key : Key) → search_at s c ≡ None → Going s c from key
@@ -63,7 +75,7 @@ placed_goes s n c from left key q place w was history begin le steps r is = grin
 -- what a load of the search leaves is a step of the walk
 
 link_steps : (s : State) (c from : ℕ) (key : Key) (q : Search) → Holds s → search_at s c ≡ Some q → Goes s c from key q → Steps c from q (weight s q.place) (load_link s c q q.place)
-link_steps s c from key q on is was = load_link_steps s c from q q.place on was.walk is was.stands
+link_steps s c from key q on is was = load_link_steps s c from q q.place on was.walk was.seen is was.stands
 
 record_steps : (s : State) (c from : ℕ) (key : Key) (q : Search) → Holds s → search_at s c ≡ Some q → Goes s c from key q → Steps c from q (weight s q.place) (load_searched s c q q.place)
 record_steps s c from key q on is was = either was.seen
@@ -108,8 +120,10 @@ made_going s n c from key _ _ on off_seek going (Recalls j t may) = seen_going s
 made_going s n c from key _ _ on off_seek going (RecallsHead j may) = seen_going s n c j from key (recall_head_tells s j may).1 refl refl refl refl going
 made_going s n c from key _ _ on off_seek going (Refinds j t i e at may) = seen_going s n c j from key (refind_tells s j t i e may).1 refl refl refl refl going
 made_going s n c from key _ _ on off_seek going (ConfirmsTry j t i at may) = seen_going s n c j from key (confirm_tells s j i (slot_at s.slots t) may).0 refl refl refl refl going
-made_going s n c from key _ _ on off_seek going (Publishes t e of may) = going_changed s n (Attach e) c from key refl refl refl refl going
-made_going s n c from key _ _ on off_seek going (Unpublishes t head next e at rest is) = going_changed s n (Detach e.number) c from key refl refl refl refl going
+made_going s n c from key _ _ on off_seek going (Publishes t e of may) = going_changed s n (Attach e) c from key refl refl refl refl (on.sections.prefix c) going
+made_going s n c from key _ _ on off_seek going (Unpublishes t head next e at rest is) = going_changed s n (Detach e.number) c from key refl refl refl refl (on.sections.prefix c) going
+made_going s n c from key _ _ on off_seek going (Republishes t u head next e f of at may is) =
+    going_changed s n (Replace f.number (rank_at s.history f.number) e) c from key refl refl refl refl (on.sections.prefix c) going
 made_going s n c from key _ _ on off_seek going _ = going_same s n c from key refl refl refl refl going
 
 -- Over the events since
@@ -179,24 +193,27 @@ load_lawful h s c key e o answer is of made reply =
     subst (Steps c (length h) search.0 (weight s search.0.place)) made (own_steps s c (length h) key search.0 e is.holds search.1 was of) in
     grind (arith, answered_by, weight)
 
--- what was attached, or ended, in the old history is so in the new one
-at_grown : (old new more : List Change) (k : ℕ) (x : Change) → new ≡ old ++ more → change_at old k ≡ Some x → change_at new k ≡ Some x
-at_grown old new more k x grown is = ap (λ (l : List Change). change_at l k) grown ∙ (at_prefix old more k (at_within old k x is).1 ∙ is)
+live_grown : (old new more : List Change) (e : Entry) → new ≡ old ++ more → IsLiveAt old (length old) e → IsLiveAt new (length old) e
+live_grown old new more e grown live = subst (λ (h : List Change). IsLiveAt h (length old) e) (sym grown) (live_then old more e live)
 
 met_as : (old new more : List Change) (seen : ℕ) (key : Key) (answer : Option Entry) (e : Entry) → IsLegal new → new ≡ old ++ more → (lawful : IsLawful new (length old) seen key answer)
     → IsLookup new lawful.point key answer → IsLiveAt old (length old) e → key_of e ≡ key → ((p : ℕ) → EndsAt new e.number p → ⊥) → answer ≡ Some e
 met_as old new more seen key None e legal grown lawful at live same stays =
-    absurd (at e (record { attached = at_grown old new more e.number (Attach e) grown live.attached; begun = omega (arith, live.begun, lawful.from_on); unended = λ p x. absurd (stays p x) }) same)
+    absurd (at e (record { attached = attached_grown old new more e grown live.attached; begun = omega (arith, live.begun, lawful.from_on); unended = λ p x. absurd (stays p x) }) same)
 met_as old new more seen key (Some f) e legal grown lawful at live same stays =
     ap Some (one_live new legal lawful.point f e at.0 (record {
-      attached = at_grown old new more e.number (Attach e) grown live.attached;
+      attached = attached_grown old new more e grown live.attached;
       begun = omega (arith, live.begun, lawful.from_on);
       unended = λ p x. absurd (stays p x);
     }) (at.1 ∙ sym same))
 
 left_as : (old new more : List Change) (seen : ℕ) (key : Key) (answer : Option Entry) (e : Entry) (p : ℕ) → new ≡ old ++ more → (lawful : IsLawful new (length old) seen key answer)
     → IsLookup new lawful.point key answer → EndsAt old e.number p → answer ≡ Some e → ⊥
-left_as old new more seen key answer e p grown lawful at end is = grind (arith, at_grown, at_within)
+left_as old new more seen key None e p grown lawful at end is = none-some e is
+left_as old new more seen key (Some f) e p grown lawful at end is =
+    let one : f ≡ e = same_Some f e is in
+    let ends : EndsAt new f.number p = subst (λ (g : Entry). EndsAt new g.number p) (sym one) (ends_grown old new more e.number p grown end) in
+    omega (arith, at.0.unended p ends, (ended_within old e.number p end).1, lawful.from_on)
 
 pub answers_freshly : (s : State) → Holds s → AnswersFreshly s
 answers_freshly s on c key since event o answer allowed none of made reply =
@@ -211,6 +228,8 @@ answers_freshly s on c key since event o answer allowed none of made reply =
     record {
       lawful = lawful;
       met = λ e live same stays. met_as s.history o.state.history more (seen_at o.state c) key answer e holds.legal grown lawful lawful.answered live same stays;
+      kept = λ e live same stays missed. never_missed o.state.history holds.legal key (length s.history) (seen_at o.state c) e (live_grown s.history o.state.history more e grown live) same stays
+          (subst (λ (a : Option Entry). IsLawful o.state.history (length s.history) (seen_at o.state c) key a) missed lawful);
       left = λ e p end found. left_as s.history o.state.history more (seen_at o.state c) key answer e p grown lawful lawful.answered end found;
     }
 
@@ -249,7 +268,7 @@ pub recalls_live : (s : State) → Holds s → RecallsLive s
 recalls_live s on = record {
   recalled = λ c t e allowed attached number.
       let may : may_recall s c t ≡ true = allowed_guard (may_recall s c t) _ allowed in
-      let some : 0 < live_at s.lives t = let within = at_within s.history e.number (Attach e) attached in omega (arith, within.0, number) in
+      let some : 0 < live_at s.lives t = let within = attached_within s.history e attached in omega (arith, within.0, number) in
       live_is s t (live_at s.lives t) e on (honest_tells (live_at s.lives t) (slot_at s.slots t) some (recall_tells s c t may).3) attached number;
   confirmed = λ c t e hand allowed attached.
       let made = confirms s c (hand_at s c) allowed in
@@ -271,15 +290,22 @@ recalls_live s on = record {
 }
 
 -- the head leads to the newest live entry
-pub head_newest : (h : List Change) (w : ℕ) → Leads h (length h) (suc (length h)) w → IsNewestAt h w
-head_newest h w leads = grind arith
+pub head_newest : (h : List Change) (w : ℕ) → IsLegal h → Leads h (length h) (suc (length h)) w → IsNewestAt h w
+head_newest h zero legal (To_end none) = record {
+  none = λ is e live. none e live (omega (arith, rank_low h legal e.number, live.begun));
+  newest = λ t is. absurd (omega (arith, is));
+}
+head_newest h _ legal (To_entry e live lt most) = record {
+  none = λ is. absurd (omega (arith, is));
+  newest = λ t is. (e, live, omega (arith, is), λ f lf. most f lf (omega (arith, rank_low h legal f.number, lf.begun)));
+}
 
 -- only one word is replied
 pub one_word : (b : Bool) (s n : State) (m w : ℕ) → guard b (some_outcome s (Word m)) ≡ Some (record { state = n; reply = Word w }) → m ≡ w
 one_word b s n m w is = grind (arith, same_Some, none-some)
 
 pub recalls_newest : (s : State) → Holds s → RecallsNewest s
-recalls_newest s on c w n made = subst (IsNewestAt s.history) (one_word (may_recall_head s c) (after_seeing s c) n s.head w made) (head_newest s.history s.head on.list.first)
+recalls_newest s on c w n made = subst (IsNewestAt s.history) (one_word (may_recall_head s c) (after_seeing s c) n s.head w made) (head_newest s.history s.head on.legal on.list.first)
 
 pub fresh_answers : FreshAnswers
 fresh_answers z events fit = answers_freshly (after (opening z) events) (every_run_keeps z events fit)

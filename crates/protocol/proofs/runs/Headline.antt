@@ -12,12 +12,13 @@ use Rattle.protocol.proofs.runs.Steps.{after_more}
 use Rattle.protocol.proofs.runs.Reuse.{every_run_keeps, number_is, goes, comes, given_vacant, keeps_same, goes_or_stays, destroyed_drained}
 use Rattle.protocol.proofs.Either.{either}
 use Rattle.protocol.proofs.Occupied.{at_rest_tells, attached_in, slot_occupied}
-use Rattle.protocol.proofs.History.{at_within, one_entry}
+use Rattle.protocol.proofs.History.{attached_within, one_entry}
 use Rattle.protocol.proofs.runs.Answers.{history_grows, answers_lawful, search_begun, answers_lawfully}
 use Rattle.protocol.proofs.keeps.Drivers.{rightly_some}
 use Rattle.protocol.proofs.counts.Sums.{one_other, no_standing, no_hand, unoccupied}
 use Rattle.protocol.proofs.model.RefiningEntries.{drained, number_of}
 use Rattle.protocol.proofs.runs.Fresh.{answers_freshly, sees_all, recalls_live, recalls_newest}
+use Rattle.protocol.proofs.runs.Replacing.{replaces_at_once}
 use Rattle.protocol.proofs.model.Refining.{ran_refines}
 
 -- The grace law: what the word of a CPU tells of its sections.
@@ -123,7 +124,7 @@ numbered : (s : State) (t n : ℕ) → Holds s → occupant_of s t ≡ Some n �
 numbered s t n on is =
     let e = number_is _ n is in
     let at = (attached_in s.history s.slots t e.0 on.slots e.1).0 in
-    let within = at_within s.history e.0.number _ at in
+    let within = attached_within s.history e.0 at in
     omega (arith, within.1, e.2)
 
 stays : (s : State) (e : Event) (t u d : ℕ) → Holds s → kept_at s.keeps t ≡ Some d → occupant_of s u ≡ Some d → occupant_of (after_event s e) u ≡ Some d
@@ -233,6 +234,7 @@ obeys_laws s on = record {
   whole = sees_all s on;
   live = recalls_live s on;
   newest = recalls_newest s on;
+  replaces = replaces_at_once s on;
   balance = λ rest. balances_at_rest s on rest;
   grace = ends_by_exit s on;
   keeps = λ later. ran_keeps (empty_run s) later on;

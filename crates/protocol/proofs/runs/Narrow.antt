@@ -1,16 +1,20 @@
 -- The pure machine: its lists of events are lists of `step`, and what it attaches has a lawful name; the worked rows, computed.
 use Rattle.std.proofs.Common.{◌≡◌, ℕ, ◌+◌, List, [], ◌∷◌, length, Option, Some, Bool, true, false, if◌then◌else◌, refl, sym, subst, arith, ◌++◌}
 use Rattle.std.specs.Prelude.{IsTrue}
-use Rattle.std.proofs.lemmas.Option.{none-some}
-use Rattle.protocol.specs.Types.{Entry, Change, Attach, Detach}
+use Rattle.std.proofs.lemmas.Option.{none-some, same_Some}
+use Rattle.protocol.specs.Types.{Entry, Change, Attach, Detach, Replace, Key}
+use Rattle.protocol.specs.History.{change_at, rank_at}
+use Rattle.registry_values.specs.Common.{key_of}
+use Rattle.protocol.proofs.keeps.Replacing.{may_republish_tells}
 use Rattle.registry_values.specs.Common.{is_lawful}
 use Rattle.registry_values.specs.Names.{are_name_words, are_key_words}
-use Rattle.protocol.specs.Common.{Event, Publish, Outcome, Reply, RecordWords, State, guard, names_lawfully, narrow_step, opening, row_at, state_after, step, Run, empty_run, narrow_run_of_events, run_of_events, run_with_event, with_lawful_names, after_change, entry_of, Holds, AreNamedLawfully, NarrowEvents, NarrowNames, NarrowRuns, Found, FrozenLink, CollectRace, TryRace, Gives, two_cpus, attaches, done_replies, loads, try_replies, first, all_three, search_begins, wm0, wm1, wm2, search_case, detaches, unlinked_case, search_goes_on, has_found}
+use Rattle.registry_values.specs.Common.{bias}
+use Rattle.protocol.specs.Common.{IsAttached, Event, Publish, Outcome, Reply, RecordWords, State, guard, names_lawfully, narrow_step, opening, row_at, state_after, step, Run, empty_run, narrow_run_of_events, run_of_events, run_with_event, with_lawful_names, after_change, entry_of, Holds, AreNamedLawfully, NarrowEvents, NarrowNames, NarrowRuns, Found, FrozenLink, CollectRace, ReplaceRace, ReplacedUnder, KeptDriver, two_slots, keep_events, keep_case, wm, wm_entry, Ref, attaches_two, only_two, replace_begins, replace_case, replaces_one, loads_five, replace_replies, newer, replies, try_events, after, LoadLink, TryRace, Gives, two_cpus, attaches, done_replies, loads, try_replies, first, all_three, search_begins, wm0, wm1, wm2, search_case, detaches, unlinked_case, search_goes_on, has_found}
 use Rattle.protocol.proofs.Either.{either}
-use Rattle.protocol.proofs.History.{at_cases, at_empty}
+use Rattle.protocol.proofs.History.{attach_cases, empty_brings}
 use Rattle.protocol.proofs.keeps.Keeping.{after_keeps, opening_holds, step_keeps}
 use Rattle.protocol.proofs.keeps.ListKeeps.{entry_shows}
-use Rattle.protocol.proofs.Made.{Made, Publishes, Unpublishes, each_event}
+use Rattle.protocol.proofs.Made.{Made, Publishes, Unpublishes, Republishes, each_event}
 use Rattle.protocol.proofs.runs.Steps.{turned_state}
 
 guard_tells : (b : Bool) (o : Option Outcome) (x : Outcome) → guard b o ≡ Some x → (b ≡ true) × (o ≡ Some x)
@@ -58,23 +62,31 @@ narrow_runs s events = grind (arith, alike)
 -- Names
 
 named_attach : (h : List Change) (e : Entry) → IsTrue (is_lawful e.rec.name) → AreNamedLawfully h → AreNamedLawfully (after_change h (Attach e))
-named_attach h e lawful named f att = grind (arith, at_cases)
+named_attach h e lawful named f att = either (attach_cases h (Attach e) f att) (λ old. named f old.was) (λ new. subst (λ (g : Entry). IsTrue (is_lawful g.rec.name)) (same_Some e f new.is) lawful)
 
 named_detach : (h : List Change) (n : ℕ) → AreNamedLawfully h → AreNamedLawfully (after_change h (Detach n))
-named_detach h n named f att = either (at_cases h (Detach n) f.number (Attach f) att) (λ old. named f old.was) (λ new. absurd (let q : ◌≡◌ {A = Change} (Attach f) (Detach n) = new.is in cc))
+named_detach h n named f att = either (attach_cases h (Detach n) f att) (λ old. named f old.was) (λ new. absurd (none-some f new.is))
+
+-- what takes another's place has its name
+named_swap : (h : List Change) (r : ℕ) (f e : Entry) → IsAttached h f → key_of f ≡ key_of e → AreNamedLawfully h → AreNamedLawfully (after_change h (Replace f.number r e))
+named_swap h r f e old key named g att = either (attach_cases h (Replace f.number r e) g att)
+    (λ was. named g was.was)
+    (λ new. subst (λ (i : Entry). IsTrue (is_lawful i.rec.name)) (same_Some e g new.is) (subst (λ (k : Key). IsTrue (is_lawful k.name)) key (named f old)))
 
 -- the name of a row that the pure machine publishes
 name_of_row : (s : State) (t : ℕ) (e : Entry) → entry_of t (row_at s.rows t) ≡ Some e → names_lawfully s (Publish t) ≡ true → IsTrue (is_lawful e.rec.name)
 name_of_row s t e is lawful = subst (λ (r : RecordWords). are_name_words r.high r.low ≡ true) (entry_shows t (row_at s.rows t) e is).1 lawful
 
-made_named : (s n : State) (e : Event) (r : Reply) → Made s e n r → names_lawfully s e ≡ true → AreNamedLawfully s.history → AreNamedLawfully n.history
-made_named s _ _ _ (Publishes t e is may) lawful named = named_attach s.history e (name_of_row s t e is lawful) named
-made_named s _ _ _ (Unpublishes t head next e at rest is) lawful named = named_detach s.history e.number named
-made_named s _ _ _ _ lawful named = named
+made_named : (s n : State) (e : Event) (r : Reply) → Holds s → Made s e n r → names_lawfully s e ≡ true → AreNamedLawfully s.history → AreNamedLawfully n.history
+made_named s _ _ _ on (Publishes t e is may) lawful named = named_attach s.history e (name_of_row s t e is lawful) named
+made_named s _ _ _ on (Unpublishes t head next e at rest is) lawful named = named_detach s.history e.number named
+made_named s _ _ _ on (Republishes t u head next e f of at may is) lawful named =
+    named_swap s.history (rank_at s.history f.number) f e (on.slots.live u f at).0.attached (may_republish_tells s t u e f on of at may).2.swap.key named
+made_named s _ _ _ on _ lawful named = named
 
-named_if : (s : State) (event : Event) (b : Bool) → names_lawfully s event ≡ b → AreNamedLawfully s.history → AreNamedLawfully (state_after s (guard b (step s event))).history
-named_if s event true is named = each_event (λ o. AreNamedLawfully (state_after s o).history) s event named (λ n r made. made_named s n event r made is named)
-named_if s event false is named = named
+named_if : (s : State) (event : Event) (b : Bool) → Holds s → names_lawfully s event ≡ b → AreNamedLawfully s.history → AreNamedLawfully (state_after s (guard b (step s event))).history
+named_if s event true on is named = each_event (λ o. AreNamedLawfully (state_after s o).history) s event named (λ n r made. made_named s n event r on made is named)
+named_if s event false on is named = named
 
 holds_if : (s : State) (event : Event) (b : Bool) → Holds s → Holds (state_after s (guard b (step s event)))
 holds_if s event b on = grind (arith, after_keeps, step_keeps)
@@ -85,10 +97,10 @@ ran_named r (e ∷ es) on named =
     let turned = turned_state r (narrow_step r.state e) in
     ran_named (run_with_event r (narrow_step r.state e)) es
     (subst Holds (sym turned) (holds_if r.state e (names_lawfully r.state e) on))
-    (subst (λ (s : State). AreNamedLawfully s.history) (sym turned) (named_if r.state e (names_lawfully r.state e) refl named))
+    (subst (λ (s : State). AreNamedLawfully s.history) (sym turned) (named_if r.state e (names_lawfully r.state e) on refl named))
 
 pub narrow_names : NarrowNames
-narrow_names z events fit = ran_named (empty_run (opening z)) events (opening_holds z fit) (λ e att. absurd (at_empty e.number (Attach e) att))
+narrow_names z events fit = ran_named (empty_run (opening z)) events (opening_holds z fit) (λ e att. absurd (empty_brings e.number e att))
 
 -- The worked rows, computed.
 
@@ -115,3 +127,39 @@ collect_race = record { detached = refl; race = refl; counted = refl }
 pub try_race : TryRace
 unfolding are_key_words
 try_race = record { tries = refl; tried = refl; confirmed = refl; detached = refl; headed = refl; refound = refl; unhidden = refl; freed = refl; given = refl }
+
+attached_two : Gives (opening two_cpus) attaches_two (done_replies 24) only_two
+unfolding are_key_words
+attached_two = (refl, refl)
+
+replace_begun : Gives only_two replace_begins (done_replies 10 ++ loads 2 ++ loads 2 ++ loads 2 ++ loads wm1.high ++ loads 0) replace_case
+replace_begun = (refl, refl)
+
+replace_later : replies replace_case (replaces_one ++ LoadLink 0 ∷ loads_five)
+    ≡ replace_replies ++ loads 3 ++ loads 3 ++ loads 2 ++ loads wm0.high ++ loads 0 ++ Some (Found newer) ∷ []
+unfolding are_key_words rank_at change_at
+replace_later = refl
+
+replace_earlier : replies replace_case (LoadLink 0 ∷ (replaces_one ++ loads_five))
+    ≡ loads 1 ++ replace_replies ++ loads 1 ++ loads 2 ++ loads wm0.high ++ loads 0 ++ Some (Found first) ∷ []
+unfolding are_key_words rank_at change_at
+replace_earlier = refl
+
+replace_kept : replies (after replace_case replaces_one) (try_events 0) ≡ try_replies
+unfolding are_key_words rank_at change_at
+replace_kept = refl
+
+pub replace_race : ReplaceRace
+replace_race = record { attached = attached_two; begun = replace_begun; later = replace_later; earlier = replace_earlier; kept = replace_kept }
+
+pub replaced_under : ReplacedUnder
+unfolding are_key_words rank_at change_at
+replaced_under = record { begun = (refl, refl); replaced = (refl, refl); goes_on = refl; anew = refl; kept = refl }
+
+kept_attached : Gives (opening two_slots) keep_events
+    (done_replies 13 ++ loads 1 ++ loads 1 ++ loads 2 ++ loads wm.high ++ loads 0 ++ Some (Found wm_entry) ∷ loads bias ++ Some (Ref 0) ∷ done_replies 12) keep_case
+unfolding are_key_words
+kept_attached = (refl, refl)
+
+pub kept_driver : KeptDriver
+kept_driver = record { attached = kept_attached; detached = refl; goes = refl; are_vacant = refl }

@@ -11,7 +11,7 @@ use Rattle.protocol.specs.Common.{after_seeing, with_retired, with_link_past, En
 use Rattle.registry_values.specs.Common.{is_lawful, is_iface, slot_before, slot_of, slot_at, no_mark, found_answer}
 use Rattle.registry_values.proofs.Answers.{attach_tells}
 use Rattle.passive_core.proofs.Attaching.{given_tells, first_fit_tells, seated_keeps, iface_links}
-use Rattle.protocol.proofs.History.{at_within}
+use Rattle.protocol.proofs.History.{ended_within}
 use Rattle.protocol.proofs.Occupied.{is_vacant_tells, in_other, in_unpublished, in_within, in_written, live_one}
 use Rattle.protocol.proofs.model.RefiningSections.{unwritten}
 use Rattle.protocol.proofs.model.RefiningEntries.{passive_moved}
@@ -151,7 +151,7 @@ retired_passive s e c n on later at = passive_moved s.history (after_change s.hi
 live_unended : (s : State) (u : ℕ) (f : Entry) (p : ℕ) → Holds s → slot_at s.slots u ≡ Live f → EndsAt s.history f.number p → ⊥
 live_unended s u f p on at end =
     let late : length s.history < p = (on.slots.live u f at).0.unended p end in
-    omega (arith, (at_within s.history p (Detach f.number) end).1)
+    omega (arith, (ended_within s.history f.number p end).1)
 
 detached_model : (s : SessionState) (r : Registry) (c : ℕ) (e : Entry) → Holds s.core → Shows s r → slot_at s.core.slots e.slot ≡ Live e
     → SlotsShow (after_change s.core.history (Detach e.number)) (set s.core.slots e.slot (Retired e))

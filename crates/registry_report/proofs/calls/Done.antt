@@ -13,13 +13,13 @@ use Rattle.passive_core.specs.Attaching as attaching
 use Rattle.passive_core.specs.Commands as entering
 use Rattle.passive_core.specs.References as core
 use Rattle.passive_core.proofs.Passives.{found_slot}
-use Rattle.registry_report.specs.Common.{Hitch, advance_answer, attach_answer, destroy_answer, detach_answer, enter_answer, exit_answer, find_answer, command_answer, perform_answer, Gives, Leaves, Registry, SessionState, with_core, IsSession, Shows, after_advance, after_destroy, with_attached, with_detached, with_section_entered, with_section_exited, with_found, on_ok, NoLabel, Refused, copy_answer, count_answer, count_of_found, held_answer, plug_answer, read_answer, reference_answer, release_answer, uncount_answer, with_label, label_answer, after_plug, with_one_counted, on_some, with_attached_iface, with_reference, without_reference, with_one_uncounted}
+use Rattle.registry_report.specs.Common.{Hitch, advance_answer, attach_answer, destroy_answer, detach_answer, enter_answer, exit_answer, find_answer, command_answer, perform_answer, Gives, Leaves, Registry, SessionState, with_core, IsSession, Shows, after_advance, after_destroy, with_attached, with_detached, with_section_entered, with_section_exited, with_found, on_ok, NoLabel, Refused, copy_answer, count_answer, count_of_found, held_answer, plug_answer, read_answer, reference_answer, release_answer, uncount_answer, with_label, label_answer, after_plug, with_one_counted, on_some, with_attached_iface, with_reference, without_reference, with_one_uncounted, peek_answer, reading_of, Reading}
 use Rattle.registry_report.proofs.calls.Changed.{attach_done, detach_done, plug_done}
 use Rattle.registry_report.proofs.calls.Walked.{gives, leaves, enter_done, exit_inside, find_inside}
 use Rattle.registry_report.proofs.calls.Sessions.{detached_locals, live_place, new_place}
 use Rattle.registry_report.proofs.shows.Staged.{advance_answers, advance_shows, destroy_answers, destroy_shows, perform_answers, perform_shows}
 use Rattle.registry_report.proofs.shows.Counted.{Counts, acquire_local_shows, count_error, label_is, label_none, refuses, release_local_shows, uncount_answers}
-use Rattle.registry_report.proofs.shows.Referred.{acquire_shows, at_free_label, at_taken_label, copy_reference_answers, copy_shows, copy_taken_answers, held_answers, number_if, image, read_of, read_reference_answers, read_shows, reference_answers, release_reference_answers, release_shows, seated_shows}
+use Rattle.registry_report.proofs.shows.Referred.{acquire_shows, at_free_label, at_taken_label, copy_reference_answers, copy_shows, copy_taken_answers, held_answers, number_if, image, read_of, read_reference_answers, read_shows, reading_is, reference_answers, release_reference_answers, release_shows, seated_shows}
 
 -- What a call of a session gave and left, from what the core's call did: `v` is the session as its callers see it, `k` the core afterwards.
 
@@ -278,6 +278,12 @@ count_does s v k r c x id n view is on low small free due left live =
       answer ∙ ap (λ (m : ℕ). Ok m) same,
       subst (λ (b : Result ℕ Hitch). Shows (with_local_label s k x (Some id)) (on_ok r b (with_one_counted r c x))) (sym answer) shows,
     )
+
+pub peek_gives : (s v : SessionState) (r : Registry) (x id n : ℕ) (rec : Record) → s ≡ v → Shows v r → get_or s.locals x None ≡ Some id → number_standing (local_at s.core.locals id) ≡ Some n
+    → IsRecordOf s.core.history n rec → peek_answer r x ≡ Ok (read_of n rec)
+peek_gives s v r x id n rec view on filled standing is =
+    let sees = seen s v r view on in
+    ap (λ (o : Option ℕ). with_label o (λ m. Ok (reading_of r m))) (label_is s r x id n sees filled standing) ∙ ap (λ (y : Reading). Ok y) (sym (reading_is s r n rec sees is))
 
 pub peek_leaves : (s v : SessionState) (k : State) (r : Registry) → s ≡ v → Shows v r → k ≡ all_seated s.core → Shows (with_core s k) r
 peek_leaves s v k r view on left = subst (λ (x : State). Shows (with_core s x) r) (sym left) (seated_shows s r (seen s v r view on))

@@ -3,6 +3,7 @@ use Rattle.std.proofs.Common.{◌≡◌, ℕ, suc, ◌+◌, ◌<◌, ◌≤◌, 
 use Rattle.std.specs.Prelude.{not}
 use Rattle.std.proofs.lemmas.List.{get_or-replicate, get_or_append_left, length-replicate}
 use Rattle.std.proofs.lemmas.List.Sums.{sum_by-append}
+use Rattle.std.proofs.lemmas.Option.{none-some}
 use Rattle.std.specs.List.{list_any, zip}
 use Rattle.std.proofs.lemmas.Slice.Zip.{length-zip, get_or-zip}
 use Rattle.registry_report.specs.Types.{Entry, Change, Attach, Detach, Mark, Slot, Vacant, Live, Retired, MOST_CPUS, Record, Key, LocalPlace, Free, Standing, Settings}
@@ -14,7 +15,7 @@ use Rattle.registry_values.proofs.Fit.{ranges}
 use Rattle.protocol.specs.Common.{with_biases, count_at, total_at, EndsAt, after_change, IsIn, Holds, Occupies, SlotsShow, standing_of, put, number_in, passive_in, State, local_at, kept_at, passive_at, trying_at}
 use Rattle.protocol.specs.Events as events
 use Rattle.protocol.proofs.Cells.{cell_in_new, cell_in_old}
-use Rattle.protocol.proofs.History.{at_cases, length-after_change}
+use Rattle.protocol.proofs.History.{end_cases, length-after_change}
 use Rattle.protocol.proofs.keeps.ListKeeps.{live_count_put, taken_from}
 use Rattle.protocol.proofs.Occupied.{in_published, in_unpublished, not_vacant, slot_cases, attached_in, slot_found, slot_has, in_other}
 use Rattle.protocol.proofs.Either.{either}
@@ -23,7 +24,7 @@ use Rattle.protocol.proofs.counts.Sums.{local_changed, none_at, one_at, standing
 use Rattle.protocol.proofs.model.RefiningEntries.{passive_moved}
 use Rattle.passive_core.specs.Common.{with_linked, all_seated, IsLookupNow}
 use Rattle.passive_core.specs.Attaching as core
-use Rattle.registry_report.specs.Common.{is_attach, CountsLive, IsFresh, ShowsTallies, SnapshotsFollow, lookup, live_entries, is_driver_entry, is_driver_number, attach_iface_answer, is_available, lookup_now, first_fit, room_of, given_entry, attach_answer, Registry, SessionState, with_core, IsSession, Shows, number_at, with_attached, with_reference_kept}
+use Rattle.registry_report.specs.Common.{is_attach, is_detach, CountsLive, IsFresh, ShowsTallies, SnapshotsFollow, lookup, live_entries, is_driver_entry, is_driver_number, attach_iface_answer, is_available, lookup_now, first_fit, room_of, given_entry, attach_answer, Registry, SessionState, with_core, IsSession, Shows, number_at, with_attached, with_reference_kept}
 use Rattle.registry_report.proofs.Lookups.{position_is, entry_is, lookup_is, one_lookup}
 use Rattle.registry_report.proofs.shows.Sectioned.{inside_is, put_shows}
 
@@ -96,7 +97,7 @@ pub attach_counts : (h : List Change) (slots : List Slot) (e : Entry) → e.slot
 attach_counts h slots e lt vacant on =
     let more = live_count_put slots e.slot Vacant (Live e) lt vacant in
     let attaches = sum_by-append (λ (c : Change). cond (is_attach c) 1 0) h (Attach e ∷ []) in
-    let detaches = sum_by-append (λ (c : Change). cond (not (is_attach c)) 1 0) h (Attach e ∷ []) in
+    let detaches = sum_by-append (λ (c : Change). cond (is_detach c) 1 0) h (Attach e ∷ []) in
     omega (arith, more, attaches, detaches, on)
 
 -- one detach more, and one live slot less
@@ -105,12 +106,12 @@ pub detach_counts : (h : List Change) (slots : List Slot) (t : ℕ) (e : Entry) 
 detach_counts h slots t e lt at on =
     let less = live_count_put slots t (Live e) (Retired e) lt at in
     let attaches = sum_by-append (λ (c : Change). cond (is_attach c) 1 0) h (Detach e.number ∷ []) in
-    let detaches = sum_by-append (λ (c : Change). cond (not (is_attach c)) 1 0) h (Detach e.number ∷ []) in
+    let detaches = sum_by-append (λ (c : Change). cond (is_detach c) 1 0) h (Detach e.number ∷ []) in
     omega (arith, less, attaches, detaches, on)
 
 -- an attach ends nobody
 ends_as_before : (h : List Change) (e : Entry) (n p : ℕ) → EndsAt (after_change h (Attach e)) n p → EndsAt h n p
-ends_as_before h e n p x = either (at_cases h (Attach e) p (Detach n) x) (λ old. old.was) (λ new. absurd (let q : Detach n ≡ Attach e = new.is in cc))
+ends_as_before h e n p x = either (end_cases h (Attach e) n p x) (λ old. old.was) (λ new. absurd (none-some n new.is))
 
 pub attach_follows : (h : List Change) (slots : List Slot) (marks : List (List Mark)) (section : List ℕ) (begins : List (Option ℕ)) (e : Entry) → e.slot < length slots → slot_at slots e.slot ≡ Vacant
     → SnapshotsFollow h slots marks section begins → SnapshotsFollow (after_change h (Attach e)) (set slots e.slot (Live e)) marks section begins
@@ -123,7 +124,7 @@ pub detach_follows : (h : List Change) (slots : List Slot) (marks : List (List M
     → ((c b : ℕ) → get_or begins c None ≡ Some b → b ≤ length h)
     → ((u : ℕ) (f : Entry) → slot_at slots u ≡ Live f → (p : ℕ) → EndsAt h f.number p → ⊥)
     → SnapshotsFollow h slots marks section begins → SnapshotsFollow (after_change h (Detach e.number)) (set slots t (Retired e)) (set marks t row) section begins
-detach_follows h slots marks section begins t e row lt live early unended on u p c b w f at end begun snapshot same = either (at_cases h (Detach e.number) p (Detach f.number) end)
+detach_follows h slots marks section begins t e row lt live early unended on u p c b w f at end begun snapshot same = either (end_cases h (Detach e.number) f.number p end)
     (λ old. either (slot_cases slots t (Retired e) u lt)
     (λ here.
     let one : f ≡ e = (let q : Retired f ≡ Retired e = sym at ∙ here.1 in cc) in

@@ -13,7 +13,7 @@ use Rattle.registry_values.proofs.Fit.{ranges}
 use Rattle.protocol.specs.Common.{State, count_at, found_at, local_at, total_at, with_cell, least_id, number_standing, with_local, Holds, IsIn, SlotsShow, standing_of, put, with_locals, addition_due_at, is_adding_at, number_in}
 use Rattle.protocol.proofs.Cells.{by_cell, cell_here, cell_other, one_in, entry_attached}
 use Rattle.protocol.proofs.keeps.CountKeeps.{held_counting}
-use Rattle.protocol.proofs.History.{at_within}
+use Rattle.protocol.proofs.History.{attached_within}
 use Rattle.protocol.proofs.Occupied.{one_number, slot_has, at_rest_tells}
 use Rattle.protocol.proofs.model.RefiningSections.{put_here, put_is, put_other}
 use Rattle.protocol.proofs.keeps.References.{least_free, least_within, standing_tells, with_local_other, with_local_same}
@@ -55,7 +55,7 @@ record HasWords (s : State) (c n t : ℕ) : Type 0 where
 has_words : (s : State) (c n t : ℕ) → Holds s → c < s.settings.cpus → slot_of s.slots n ≡ Some t → HasWords s c n t
 has_words s c n t on low of =
     let at = slot_has s.slots n t of in
-    let within = at_within s.history at.1.0.number _ (entry_attached s.history s.slots at.1.0 t on.slots at.1.1).0 in
+    let within = attached_within s.history at.1.0 (entry_attached s.history s.slots at.1.0 t on.slots at.1.1).0 in
     let few = (ranges s.settings on.fit).cpus in
     let counts : t < length s.counts = omega (arith, at.0, on.shape.slots, on.shape.counts) in
     let nets : t < length s.nets = omega (arith, at.0, on.shape.slots, on.shape.nets) in

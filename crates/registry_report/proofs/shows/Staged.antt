@@ -3,7 +3,7 @@ use Rattle.std.proofs.Common.{◌≡◌, ℕ, zero, suc, ◌+◌, ◌-◌, ◌<�
 use Rattle.std.specs.Prelude.{if◌then◌else◌, is_some, not, Result, Ok, Err}
 use Rattle.std.proofs.lemmas.Bool.{and_parts, cases_Bool, cases_eq, cases_lt, eq-eqb, ne_eqb, lt-ltb, le-ltb}
 use Rattle.std.proofs.lemmas.Option.{none-some}
-use Rattle.registry_report.specs.Types.{Entry, Change, Attach, Detach, Refusal, Inside, Stage, Freed, Grace, Local, Passive, Hand, Empty, Mark, Slot, Vacant, Live, Retired}
+use Rattle.registry_report.specs.Types.{Entry, Change, Refusal, Inside, Stage, Freed, Grace, Local, Passive, Hand, Empty, Mark, Slot, Vacant, Live, Retired}
 use Rattle.passive_core.specs.Advancing as core
 use Rattle.passive_core.specs.Common.{AdvanceLeaves, DestroyLeaves, LeavesFree, LeavesMarks, LeavesTotal, StageLeaves, is_open_since, is_snapshot, IsQuiet, all_seated, PerformLeaves}
 use Rattle.registry_values.specs.Common.{wait_answer, destroy_result, destroy_result_of, stage_of, is_retired_as, has_number, is_retired, slot_at, least_below, no_mark}
@@ -15,7 +15,7 @@ use Rattle.protocol.proofs.Cells.{snapshot_stands, slot_number}
 use Rattle.passive_core.proofs.Advancing.{clear_none, unclear_some}
 use Rattle.passive_core.proofs.Entering.{acts_free}
 use Rattle.protocol.proofs.counts.Sums.{no_hand, number_of}
-use Rattle.protocol.proofs.History.{at_within}
+use Rattle.protocol.proofs.History.{attached_within, ended_within}
 use Rattle.protocol.proofs.keeps.ListKeeps.{live_count_put}
 use Rattle.protocol.proofs.Occupied.{at_rest_tells, attached_in, has_it, in_other, in_vacated, in_within, one_in, one_number}
 use Rattle.protocol.proofs.model.RefiningSections.{put_here, put_is, put_other, unwritten}
@@ -77,7 +77,7 @@ unended_is s t e on live = either (cases_Bool (has_ended s.history e.number))
     (λ yes.
     let p = some_of (end_of s.history e.number) yes in
     let end = end_tells s.history e.number p.0 p.1 in
-    absurd (omega (arith, (at_within s.history p.0 (Detach e.number) end).1, (on.slots.live t e live).0.unended p.0 end)))
+    absurd (omega (arith, (ended_within s.history e.number p.0 end).1, (on.slots.live t e live).0.unended p.0 end)))
     (λ no. no)
 
 -- no number below passes a test that is false
@@ -183,7 +183,7 @@ marks_shows s r k t on left = subst (λ (x : State). Shows (with_core s x) r) (s
 
 -- an occupant's number is no later than the history
 number_within : (h : List Change) (slots : List Slot) (t : ℕ) (e : Entry) → SlotsShow h slots → IsIn e (slot_at slots t) → e.number ≤ length h
-number_within h slots t e show is = (at_within h e.number (Attach e) (attached_in h slots t e show is).0).1
+number_within h slots t e show is = (attached_within h e (attached_in h slots t e show is).0).1
 
 -- the words of one slot are collected
 collected_tallies : (cpus : ℕ) (h : List Change) (slots : List Slot) (counts now nets : List (List ℕ)) (totals left : List ℕ) (acquired released : ℕ → ℕ → ℕ) (given : ℕ → ℕ) (is_collected : ℕ → Bool)

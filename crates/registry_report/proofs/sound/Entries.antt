@@ -8,11 +8,10 @@ use Rattle.registry_values.specs.Common.{key_of_record, is_iface, is_driver, fou
 use Rattle.registry_values.proofs.Answers as answers
 use Rattle.registry_values.proofs.Slots.{none_is, least_none}
 use Rattle.protocol.specs.Common.{MayHold, keeps_rightly, after_change, IsLegal, IsLiveAt, IsLookup, Model, put, IsDriverHere, Stays, Goes_on, Attaches, Detaches, Sees, EndsAt, with_locals, IsUnheld, Gives_up, Uncounts, Vacates}
-use Rattle.protocol.specs.History.{change_at}
 use Rattle.protocol.specs.Model.{Keeps}
-use Rattle.protocol.proofs.History.{hold_was, hold_old, at_new, at_within, attached_old, length-after_change, one_entry}
+use Rattle.protocol.proofs.History.{hold_was, hold_old, attached_old, attached_within, ended_within, length-after_change, one_entry}
 use Rattle.protocol.proofs.model.RefiningSections.{put_here, put_is, put_other, two_steps}
-use Rattle.protocol.proofs.keeps.Linking.{legal_attach, live_cases, attached_before, legal_detach, was_there}
+use Rattle.protocol.proofs.keeps.Linking.{legal_attach, live_cases, new_attached, attached_before, legal_detach, was_there}
 use Rattle.protocol.proofs.keeps.SectionKeeps.{none_from, some_from}
 use Rattle.protocol.proofs.Either.{either}
 use Rattle.passive_core.proofs.Advancing.{least_some}
@@ -37,8 +36,8 @@ attach_keeps z m labels c e on vacant number legal =
       held = λ d b f in_ hold. either (cases_lt f.number (suc (length m.history)))
           (λ lt. still_there m.occupants e.slot f.slot (Some e.number) f.number vacant (on.held d b f in_ (hold_was m.history (Attach e) b f hold (omega arith))))
           (λ ge.
-          let top : f.number ≤ length (after_change m.history (Attach e)) = (at_within (after_change m.history (Attach e)) f.number (Attach f) hold.attached).1 in
-          here f (one_entry (after_change m.history (Attach e)) f e hold.attached (ap (change_at (after_change m.history (Attach e))) number ∙ at_new m.history (Attach e)) (omega arith)));
+          let top : f.number ≤ length (after_change m.history (Attach e)) = (attached_within (after_change m.history (Attach e)) f hold.attached).1 in
+          here f (one_entry (after_change m.history (Attach e)) f e hold.attached (new_attached m.history (Attach e) e refl number) (omega arith)));
       begun = λ d b in_. let was = on.begun d b in_ in (was.0, omega (arith, was.1));
       seen = put_capped m.passes c (length (after_change m.history (Attach e))) (length m.history) on.seen (omega arith);
       unsearching = on.unsearching;
@@ -268,7 +267,7 @@ vacate_keeps : (z : Settings) (m : Model) (labels : ℕ → Option ℕ) (t n p :
 vacate_keeps z m labels t n p keeps on at ends unheld kept =
     let live : (e : Entry) → IsLiveAt m.history (length m.history) e → put m.occupants t None e.slot ≡ Some e.number =
     λ e live. still_beside m.occupants t e.slot n e.number at (on.live e live)
-    (λ same. let late = live.unended p (subst (λ (k : ℕ). EndsAt m.history k p) (sym same) ends) in omega (arith, late, (at_within m.history p _ ends).1)) in
+    (λ same. let late = live.unended p (subst (λ (k : ℕ). EndsAt m.history k p) (sym same) ends) in omega (arith, late, (ended_within m.history n p ends).1)) in
     let held : (c b : ℕ) (e : Entry) → m.sections c ≡ Some b → MayHold m.history b e → put m.occupants t None e.slot ≡ Some e.number =
     λ c b e in_ hold. still_beside m.occupants t e.slot n e.number at (on.held c b e in_ hold) (λ same. unheld.sections c b e in_ hold same) in
     let labelled : (x k : ℕ) → labels x ≡ Some k → HasSlot m.history (put m.occupants t None) k = λ x k is.

@@ -2,11 +2,11 @@
 use Rattle.std.proofs.Common.{◌≡◌, ℕ, ◌+◌, ◌<◌, ◌≤◌, length, Option, Some, None, Bool, true, false, not, refl, sym, ap, subst, ◌∙◌, arith, suc, ◌-◌, nat_lt, ltb-true}
 use Rattle.std.specs.Prelude.{Ok, if◌then◌else◌, ◌==◌, Result}
 use Rattle.std.proofs.lemmas.Option.{same_Some, none-some}
-use Rattle.registry_report.specs.Types.{Entry, Attach, Settings, Key, CorePsref, Refusal, NothingFound, NotHeld, WrongCpu}
+use Rattle.registry_report.specs.Types.{Entry, Settings, Key, CorePsref, Refusal, NothingFound, NotHeld, WrongCpu}
 use Rattle.registry_values.specs.Common.{why_full}
 use Rattle.registry_values.proofs.Slots.{none_is}
 use Rattle.protocol.specs.Common.{IsLawful, MayHold, IsLiveAt, IsLookup, Lookup, Model, put, IsModelRun, Stays, TakesNone, Goes_on, Answers, Enters, Exits, Seeks, Sees, with_locals, with_passive, Acquires, Copies, Counts, Releases, Uncounts}
-use Rattle.protocol.proofs.History.{at_within}
+use Rattle.protocol.proofs.History.{attached_within}
 use Rattle.protocol.proofs.model.RefiningSections.{Alike, put_here, put_is, put_other, same_model}
 use Rattle.protocol.proofs.keeps.SectionKeeps.{some_from}
 use Rattle.protocol.proofs.Either.{either}
@@ -26,7 +26,7 @@ begin_keeps z m labels c on lt out =
     λ d b f in_ hold. either (put_cases m.sections c (Some top) d)
     (λ here.
     let now : b ≡ top = same_Some b top (sym in_ ∙ here.1) in
-    on.live f (record { attached = hold.attached; begun = (at_within m.history f.number (Attach f) hold.attached).1; unended = λ p x. omega (arith, hold.unended p x) }))
+    on.live f (record { attached = hold.attached; begun = (attached_within m.history f hold.attached).1; unended = λ p x. omega (arith, hold.unended p x) }))
     (λ off. on.held d b f (sym off.1 ∙ in_) hold) in
     let begun : (d b : ℕ) → put m.sections c (Some top) d ≡ Some b → (d < z.cpus) × (b ≤ top) = λ d b in_. either (put_cases m.sections c (Some top) d)
     (λ here. (omega (arith, here.0), omega (arith, same_Some b top (sym in_ ∙ here.1))))

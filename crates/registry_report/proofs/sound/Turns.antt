@@ -7,9 +7,9 @@ use Rattle.std.proofs.lemmas.List.Elements.{All-head, All-tail}
 use Rattle.std.proofs.lemmas.Option.{none-some, same_Some}
 use Rattle.protocol.specs.Common.{one_if, put, Stays, IsLegal}
 use Rattle.protocol.proofs.model.RefiningSections.{join_runs, put_here, put_other}
-use Rattle.registry_report.specs.Types.{Refusal, Settings, Attach, Detach}
+use Rattle.registry_report.specs.Types.{Refusal, Settings, Attach, Replace}
 use Rattle.registry_report.specs.Common.{Hitch, Refused, count_below, command_answer, is_this, Registry, opening_registry, after_each, labels_for, IsSound, IsLawfulTurn, on_ok}
-use Rattle.protocol.proofs.History.{at_empty}
+use Rattle.protocol.proofs.History.{at_empty, empty_brings, empty_ends}
 use Rattle.protocol.proofs.Either.{either}
 
 -- A function with one value put
@@ -171,16 +171,17 @@ each_turn {C} after Fits turn r (x ∷ xs) on fits =
 
 none_legal : IsLegal []
 none_legal = record {
-  numbered = λ k e x. absurd (at_empty k (Attach e) x);
+  numbered = λ k e x. absurd (empty_brings k e x);
   new_key = λ k e f x live same. at_empty (suc k) (Attach e) x;
-  new_slot = λ k e f x live same. at_empty (suc k) (Attach e) x;
-  ends_live = λ k n x. absurd (at_empty (suc k) (Detach n) x);
+  new_slot = λ k e f x live same. empty_brings (suc k) e x;
+  ends_live = λ k n x. absurd (empty_ends n (suc k) x);
+  alike = λ k n r e f x live same. absurd (at_empty (suc k) (Replace n r e) x);
 }
 
 pub opened_sound : (z : Settings) → IsSound (opening_registry z)
 opened_sound z = record {
   legal = none_legal;
-  live = λ e on. absurd (at_empty e.number (Attach e) on.attached);
+  live = λ e on. absurd (empty_brings e.number e on.attached);
   held = λ c b e in_ hold. absurd (none-some b in_);
   begun = λ c b in_. absurd (none-some b in_);
   seen = λ c. omega arith;

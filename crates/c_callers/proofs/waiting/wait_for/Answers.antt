@@ -1,6 +1,6 @@
 -- A wait of two turns by one CPU.
 use Rattle.std.proofs.Common.{◌∙◌}
-use Rattle.c_callers.proofs.Waits.{knows_more, knows_same}
+use Rattle.c_callers.proofs.Waits.{both, same_cpu}
 use Rattle.c_callers.proofs.waiting.wait_for.Goals as goal
 
 pub returns : goal.returns
@@ -13,12 +13,12 @@ returns c =
     let a = c.begin.ensures in
     let b = c.turn-first.ensures in
     let d = c.turn-second.ensures in
-    let under = b.goes_on k.words x m a.words.0 a.begun (knows_same m) in
-    let met = d.done k.words x n (b.words.0 ∙ a.words.0) under (knows_same n) in
+    let under = b.goes_on k.words x m a.words.0 a.begun (same_cpu m) in
+    let met = d.done k.words x n (b.words.0 ∙ a.words.0) under (same_cpu n) in
     record {
       met = met;
+      seen = λ none. c.waits_law.ensures.waited k.words x y (met none);
       ended = λ none. c.waits_law.ensures.ended k.words x y (met none);
-      knows = knows_more x n y (knows_more x m n a.knows b.knows) d.knows;
-      inside = d.inside ∙ (b.inside ∙ a.inside);
+      on = both x.cpu n.cpu y.cpu (both x.cpu m.cpu n.cpu a.on b.on) d.on;
       words = (d.words.0 ∙ (b.words.0 ∙ a.words.0), d.words.1 ∙ (b.words.1 ∙ a.words.1));
     }

@@ -4,7 +4,8 @@ use Rattle.registry_values.specs.Common.{attach_answer, is_iface, live_count, sl
 use Rattle.passive_list.specs.Common.{OnKeeper, HasAttachedKeeping, LogsAttach}
 use Rattle.cpu_words.specs.Common.{Named, did}
 use Rattle.name_registry.specs.Common.{HasAttachedIfaceFor}
-use Rattle.name_registry.proofs.Attached.{MayTake, keeping_more, log_told, a_driver, inside_is, taken_tells, attach_met, keeping_told}
+use Rattle.passive_list.proofs.Attached.{keeping_more}
+use Rattle.name_registry.proofs.Attached.{MayTake, log_told, a_driver, inside_is, taken_tells, attach_met, keeping_told}
 use Rattle.name_registry.proofs.attaching.attach_iface_in.Goals.{After-hear_cpu}
 use Rattle.name_registry.proofs.attaching.attach_iface_in.Goals as goal
 

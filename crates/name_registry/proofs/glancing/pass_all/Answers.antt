@@ -9,5 +9,5 @@ returns-clause-passed c =
     let hear = c.hear_cpu.ensures in
     let again = c.hear_cpu-2.ensures in
     let show = c.show_cpu.ensures in
-    subst (λ (z : Settings). HasPassedAll z c.args.keeper.now.keeper c.args.cpu.now.cpu c.args.numbers.now c.show_cpu.new.keeper.keeper c.show_cpu.new.cpu.cpu) c.requires.words.1
+    subst (λ (z : Settings). HasPassedAll z c.args.keeper.now.keeper c.args.cpu.now.cpu c.args.retired.now c.show_cpu.new.keeper.keeper c.show_cpu.new.cpu.cpu) c.requires.words.1
     (made_passes _ _ _ _ _ _ _ _ _ _ _ hear.known hear.keeper hear.cpu c.pass_entries.ensures.passes again.own again.keeper again.cpu show.keeper show.cpu show.told show.log)

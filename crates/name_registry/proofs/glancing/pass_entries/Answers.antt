@@ -11,6 +11,6 @@ returns-clause-passes c =
     let own = c.settings-slot-end.ensures.own in
     let slots = ap (λ (z : Settings). z.slots) c.settings-slot-end.ensures.value in
     let few = (ranges c.args.keeper.now.words.settings own.1.agree.view.fit).slots in
-    passes_past c.args.words.now.settings c.args.numbers.now l.slot c.args.keeper.now.keeper l.keeper.keeper l.invariant.1
+    passes_past c.args.words.now.settings c.args.retired.now l.slot c.args.keeper.now.keeper l.keeper.keeper l.invariant.1
     (λ t past. none_retired c.args.keeper.now own.0 t own.1 (omega (arith, past, c.loop-slot-test.false, slots)))
     MOST_SLOTS (omega (arith, l.auto.slot-end, slots, few))

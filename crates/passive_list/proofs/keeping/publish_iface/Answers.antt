@@ -46,7 +46,7 @@ invariant_of-keeper c =
     let row = row_read a k written t c.index_mut-2.result.now (subst (λ (rows : List KeptSlot). RowsAgree a k rows) (sym (kept at)) (asked at).agree) (asked at).slot c.index_mut-2.ensures.value in
     let are = published_keeper a k l (rows_keeping inside.rows.items t c.reference.inside.number) inside.changes e has.link
     (c.keeper.invariant.0.changes ∙ sym (ap (λ (x : KeeperView). length x.history) c.keep.ensures.change)) (asked at) has.view (step_is_shown has.shown) in (
-      subst (λ (r : KeptSlot). IsOurKeeper a l (set written t (row_live r e)) (inside.changes + 1)) (sym row)
+      subst (λ (r : KeptSlot). IsOurKeeper a l (set written t r) (inside.changes + 1)) (sym (c.make_live.ensures ∙ ap (λ (r : KeptSlot). row_live r e) row))
           (subst (λ (rows : List KeptSlot). IsOurKeeper a l (set rows t (row_live (row_at rows t) e)) (inside.changes + 1)) (sym (kept at)) are),
       marks_stay a inside.seat.view l inside.marks.items marks c.keeper.invariant.1,
     )
@@ -62,14 +62,14 @@ returns-clause-change c =
     let same : states_of written ≡ states_of inside.rows.items =
     ap states_of (kept (goal.at.returns-clause-change c).After-index_mut) ∙ states_keeping inside.rows.items t c.reference.inside.number in
     let e : Entry = record { number = inside.changes + 1; slot = t; rec = c.args.rec } in
-    let new = row_live c.index_mut-2.result.now e in
+    let new = c.make_live.new.self in
     let within = subst (λ (z : Settings). t < z.slots) (sym (settings_are c.keeper.view_is)) c.requires.vacant.0 in
     let b : OnKeeper = record { view = l; slots = states_of (set written t new); log = c.publish_entry.new.seat.log } in
     subst (λ (w : ReferenceView). HasAttachedKeeping c.args.keeper.now.keeper w e b) (ap (λ (o : OnPlainRef). o.reference) c.reference.view_is) (subst (λ (a : OnKeeper). HasAttachedKeeping a v e b) (keeper_is c.keeper.view_is) record {
       kept = subst (λ (x : KeeperView). JoinsBy (Keep t) (Keeper k) (Reference v) (Keeper x)) c.keep.ensures.change c.keep.ensures.event;
       attached = record {
         entry = subst (λ (x : KeeperView). HasEntry x e l) c.keep.ensures.change c.publish_entry.ensures.change;
-        slots = map-set state_of written t new ∙ ap (λ (xs : List Slot). set xs t (Live e)) same;
+        slots = map-set state_of written t new ∙ ap (λ (r : KeptSlot). set (states_of written) t r.state) c.make_live.ensures ∙ ap (λ (xs : List Slot). set xs t (Live e)) same;
       };
       keeping = c.publish_entry.ensures.attached v.entry.number (ap (λ (x : KeeperView). kept_at x.keeps t) c.keep.ensures.change
           ∙ get_or-set_same inside.seat.view.keeps t (Some v.entry.number) None (omega (arith, within, c.keeper.invariant.0.view.sized.keeps)));

@@ -1,11 +1,11 @@
 -- The search from slot to slot.
-use Rattle.std.proofs.Common.{◌≡◌, rules, ◌+◌, ◌-◌, ◌++◌, Bool, true, false, length, ◌∙◌, subst, append_assoc}
+use Rattle.std.proofs.Common.{◌≡◌, rules, arith, ◌+◌, ◌-◌, ◌++◌, Bool, true, false, length, ◌∙◌, subst, append_assoc}
 use Rattle.passive_list.specs.Types.{Seek, Done}
 use Rattle.protocol.specs.Common.{entry_with}
 use Rattle.cpu_words.specs.Common.{did, key_with}
 use Rattle.cpu_words.proofs.seats.Seating.{step_is_shown}
 use Rattle.passive_list.specs.Common.{IsAtLink, IsOn, HasMissed, HasVisited}
-use Rattle.passive_list.proofs.Walking.{on_slot, on_way, may_take, may_go, number_falls, follows, found, visit_id, follow_id, search_begun, link_loaded, word_loaded, one_visited, search_missed, search_found}
+use Rattle.passive_list.proofs.Walking.{on_slot, on_way, may_take, may_go, rank_falls, link_begun, follows, found, visit_id, follow_id, search_begun, link_loaded, word_loaded, one_visited, search_missed, search_found}
 use Rattle.passive_list.proofs.Visited.{gone_by_none, gone_by_next, few_gone_by, few_found, value_replied}
 use Rattle.passive_list.proofs.lookup.look_up.Goals.{After-visit-number}
 use Rattle.passive_list.proofs.lookup.look_up.Goals as goal
@@ -31,7 +31,7 @@ loop-link-init c = record {
   known_log = c.seek-link.ensures.step.known_log;
   visited = (0, search_begun c.args.cpu c.args.kind c.args.name _ _ _ c.seek-link.ensures.step.log, gone_by_none _ _ _);
   ends = (c.args.seat.now.log ++ did (Seek c.args.cpu c.args.kind c.args.name) Done, rw append_assoc c.seek-link.ensures.step.log);
-  at = search rules;
+  at = link_begun _ _ _ _ _ (λ z r. omega (arith, r.changes)) (step_is_shown c.seek-link.ensures.event) c.seek-link.ensures.change;
 }
 
 pub visit-number-requires-clause-may : goal.visit-number-requires-clause-may
@@ -72,7 +72,7 @@ load_link-link-requires-clause-may c =
     may_go _ _ _ _ _ _ _ (on v) (had v false c.if-is_sought.false)
 
 pub loop-link-smaller : goal.loop-link-smaller
-loop-link-smaller c = number_falls _ _ _ _ _ _ _ _ (on (goal.at.loop-link-smaller c).After-visit-number) c.visit-number.ensures.change
+loop-link-smaller c = let v = (goal.at.loop-link-smaller c).After-visit-number in rank_falls _ _ _ _ _ _ _ _ _ (on v) (had v false c.if-is_sought.false) c.load_link-link.ensures.change
 
 pub loop-link-preserved : goal.loop-link-preserved
 loop-link-preserved c =

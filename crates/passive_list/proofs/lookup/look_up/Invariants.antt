@@ -1,3 +1,4 @@
+use Rattle.protocol.specs.History.{rank_at}
 use Rattle.std.proofs.Common.{◌≡◌, ℕ}
 use Rattle.cpu_words.specs.Common.{IsShownCpu, key_with}
 use Rattle.passive_list.specs.Common.{HasSearchedFor, IsAtLink}
@@ -17,4 +18,4 @@ invariant-loop-link l = record {
 }
 
 abbrev pub decreases-loop-link : goal.decreases-loop-link
-decreases-loop-link l = l.last
+decreases-loop-link l = rank_at l.seat.view.pass l.last

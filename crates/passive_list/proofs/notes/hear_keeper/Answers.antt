@@ -16,6 +16,6 @@ invariant_of-keeper c =
     let k = c.keeper.inside.seat.view in
     let our = c.keeper.invariant.0 in
     let change = c.hear_keeper.ensures.change in (
-      keeper_on _ _ (keeper_with_note k c.args.note.view) _ _ change (step_is_shown c.hear_keeper.ensures.event) (assumption our.view) our.changes (rows_stay _ k _ _ refl refl refl our.rows),
+      keeper_on _ _ (keeper_with_note k c.args.note.view) _ _ change (step_is_shown c.hear_keeper.ensures.event) (assumption our.view) our.changes (rows_stay _ k _ _ refl refl refl refl our.rows),
       marks_stay _ _ c.hear_keeper.new.keeper.view _ (ap (λ (x : KeeperView). x.marks) change) c.keeper.invariant.1,
     )

@@ -24,7 +24,7 @@ invariant_of-keeper c =
     let asked = ask _ _ _ _ c.args.slot c.args.rec _ c.keeper.invariant.0 c.keeper.view_is c.requires.vacant c.requires.keeps c.requires.name c.requires.free c.requires.room in
     let has = c.publish_entry.ensures.change in
     let row = row_read _ _ _ _ _ asked.agree asked.slot c.index_mut.ensures.value in (
-      subst (λ (r : KeptSlot). IsOurKeeper inside.settings l (set inside.rows.items c.args.slot (row_live r e)) (inside.changes + 1)) (sym row)
+      subst (λ (r : KeptSlot). IsOurKeeper inside.settings l (set inside.rows.items c.args.slot r) (inside.changes + 1)) (sym (c.make_live.ensures ∙ ap (λ (r : KeptSlot). row_live r e) row))
           (published_keeper _ _ l _ _ e has.link c.keeper.invariant.0.changes asked has.view (step_is_shown has.shown)),
       marks_stay _ _ l _ (ap (λ (x : KeeperView). x.marks) has.view) c.keeper.invariant.1,
     )
@@ -33,9 +33,10 @@ pub returns-clause-change : goal.returns-clause-change
 returns-clause-change c =
     let rows = c.keeper.inside.rows.items in
     let e : Entry = record { number = c.keeper.inside.changes + 1; slot = c.args.slot; rec = c.args.rec } in
-    let new = row_live c.index_mut.result.now e in
+    let new = c.make_live.new.self in
     let b : OnKeeper = record { view = c.publish_entry.new.seat.view; slots = states_of (set rows c.args.slot new); log = c.publish_entry.new.seat.log } in
-    subst (λ (x : OnPlainKeeper). HasAttached x.keeper e b) c.keeper.view_is record { entry = c.publish_entry.ensures.change; slots = map-set state_of rows c.args.slot new }
+    subst (λ (x : OnPlainKeeper). HasAttached x.keeper e b) c.keeper.view_is
+    record { entry = c.publish_entry.ensures.change; slots = map-set state_of rows c.args.slot new ∙ ap (λ (r : KeptSlot). set (states_of rows) c.args.slot r.state) c.make_live.ensures }
 
 pub returns-clause-log : goal.returns-clause-log
 returns-clause-log c =

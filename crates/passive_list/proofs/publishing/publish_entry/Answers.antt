@@ -1,8 +1,9 @@
-use Rattle.std.proofs.Common.{◌∙◌, sym, ap, subst, arith}
+use Rattle.std.proofs.Common.{◌∙◌, ℕ, sym, ap, subst, arith}
 use Rattle.passive_list.specs.Types.{Settings, Publish, Show, Done, KeeperView, Keeper}
-use Rattle.cpu_words.specs.Common.{MayPublish, Makes, keeper_after_live}
-use Rattle.passive_list.specs.Common.{states_of, keeper_after_publish}
-use Rattle.passive_list.proofs.Attached.{attached_as, keeping_more, may_publish, published_is, leads_on, leads_within, rows_live, live_rows}
+use Rattle.protocol.specs.History.{rank_at}
+use Rattle.cpu_words.specs.Common.{LeadsBelow, MayPublish, Makes, keeper_after_live}
+use Rattle.passive_list.specs.Common.{keeper_after_publish}
+use Rattle.passive_list.proofs.Attached.{attached_as, keeping_more, may_publish, published_is, leads_in, leads_within}
 use Rattle.passive_list.proofs.publishing.publish_entry.Goals as goal
 
 pub prepare-requires-clause-link : goal.prepare-requires-clause-link
@@ -12,8 +13,7 @@ prepare-requires-clause-link c =
     let e = c.args.entry.now in
     let v = c.link_below-link.result in
     let asked = c.requires.may in
-    let within = leads_within k.slots e.number v
-    (leads_on (states_of rows) k.slots e.number v (rows_live c.args.words.now.settings k rows asked.agree) (live_rows c.args.words.now.settings k rows asked.at asked.agree) c.link_below-link.ensures) in
+    let within = leads_within (rank_at k.history) k.slots e.number v (leads_in c.args.words.now.settings k rows e.number v asked.at asked.agree c.link_below-link.ensures) in
     omega (arith, within, asked.at.sized.slots, ap (λ (z : Settings). z.slots) asked.at.settings)
 
 pub publish-requires-clause-may : goal.publish-requires-clause-may
@@ -36,7 +36,7 @@ returns-clause-change c =
     let is = published_is k c.prepare.new.seat.view c.publish.new.keeper.view e v c.prepare.ensures.prepared c.publish.ensures.change may in
     record {
       link = v;
-      leads = leads_on (states_of rows) k.slots e.number v (rows_live a k rows asked.agree) (live_rows a k rows asked.at asked.agree) c.link_below-link.ensures;
+      leads = subst (λ (n : ℕ). LeadsBelow (rank_at k.history) k.slots n v) asked.number (leads_in a k rows e.number v asked.at asked.agree c.link_below-link.ensures);
       made = subst (λ (x : KeeperView). Makes (Publish e.slot) Done (Keeper x) (Keeper (keeper_after_publish k e v))) c.prepare.ensures.prepared
           (subst (λ (x : KeeperView). Makes (Publish e.slot) Done (Keeper c.prepare.new.seat.view) (Keeper x)) is c.publish.ensures.step.event);
       shown = subst (λ (x : KeeperView). Makes (Show e.slot) Done (Keeper x) (Keeper c.show.new.keeper.view)) is c.show.ensures.step.event;
@@ -46,6 +46,7 @@ returns-clause-change c =
 pub returns-clause-attached : goal.returns-clause-attached
 returns-clause-attached c d keeps =
     let e = c.args.entry.now in
-    let first = attached_as c.args.seat.now.view c.prepare.new.seat.view e c.link_below-link.result d c.publish.new.keeper.log c.prepare.ensures.prepared
+    let prepared = c.prepare.ensures.prepared in
+    let first = attached_as c.args.seat.now.view c.prepare.new.seat.view e d c.publish.new.keeper.log (ap (λ (x : KeeperView). x.keeps) prepared) (ap (λ (x : KeeperView). x.history) prepared)
     c.requires.may.number (λ is. c.publish.ensures.attached d is) keeps in
     keeping_more e.slot e.number d c.publish.new.keeper.log c.show.new.keeper.log (_, sym c.show.ensures.step.log) first

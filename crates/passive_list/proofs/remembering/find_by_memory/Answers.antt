@@ -14,3 +14,9 @@ returns-clause-found c = (anew_after (key_with c.args.kind c.args.name) _ _ _ _ 
 
 pub returns-clause-stays : goal.returns-clause-stays
 returns-clause-stays c = (anew_after (key_with c.args.kind c.args.name) _ _ _ _ c.in_default.ensures.found c.find_anew.ensures.found c.requires.outside).1
+
+pub returns-in-Some-clause-kept : goal.returns-in-Some-clause-kept
+returns-in-Some-clause-kept c = (by_load (key_with c.args.kind c.args.name) _ _ c.in-Some.seen c.in-Some.ensures.found).2
+
+pub returns-clause-kept : goal.returns-clause-kept
+returns-clause-kept c = (anew_after (key_with c.args.kind c.args.name) _ _ _ _ c.in_default.ensures.found c.find_anew.ensures.found c.requires.outside).2

@@ -3,21 +3,20 @@ use Rattle.std.proofs.lemmas.List.{map-set}
 use Rattle.passive_list.specs.Types.{Settings, Hide, Unpublish, Done, Live, LogItem, Mark, KeeperView, Keeper}
 use Rattle.protocol.specs.Common.{live_at}
 use Rattle.registry_values.specs.Common.{slot_at}
-use Rattle.cpu_words.specs.Common.{IsBefore, LeadsBelow, Makes, did, keeper_after_live, keeper_after_unpublish}
+use Rattle.cpu_words.specs.Common.{Makes, did, keeper_after_live, keeper_after_unpublish}
 use Rattle.cpu_words.proofs.seats.Seating.{step_is_shown}
 use Rattle.passive_list.specs.Common.{KeptSlot, OnKeeper, OnPlainKeeper, row_at, state_of, states_of, AreSnapshots, AreWritten, HasDetached, IsOurKeeper, LogsDetach, MarksAgree, LogsSnapshots, with_snapshots}
 use Rattle.passive_list.proofs.Marks.{marks_stay, slot_below, written_back}
-use Rattle.passive_list.proofs.Rows.{live_in, row_read, state_at}
-use Rattle.passive_list.proofs.Retired.{before_in, leads_in, may_unpublish, unpublished_is, snapped_is, stored_keeper, zero_stored, detached_keeper, detached_marks, row_retired}
+use Rattle.passive_list.proofs.Rows.{live_in, live_read, row_read, state_at}
+use Rattle.passive_list.proofs.Retired.{LeadsFrom, StandsBefore, before_read, before_row, leads_read, leads_row, may_unpublish, unpublished_is, snapped_is, stored_keeper, zero_stored, detached_keeper, row_retired, taken_marks}
 use Rattle.passive_list.proofs.retiring.retire.Goals.{In-Live, After-hide, After-slot_above-before, After-link_below-link}
 use Rattle.passive_list.proofs.retiring.retire.Goals as goal
 
 -- the entry is the one of the slot's row
 is_live : (c : In-Live) → (row_at c.keeper.inside.rows.items c.args.slot).state ≡ Live c.in-Live.entry
 is_live c =
-    let agree = c.keeper.invariant.0.rows in
     let live = ap (λ (x : OnPlainKeeper). slot_at x.keeper.slots c.args.slot) c.keeper.view_is ∙ c.requires.live.1 in
-    ap state_of (sym (row_read _ _ _ _ _ agree (live_in _ _ _ _ _ agree live).0 c.index.ensures)) ∙ c.in-Live.is
+    ap state_of (sym (live_read _ _ _ _ _ _ c.keeper.invariant.0.rows live c.index.ensures)) ∙ c.in-Live.is
 
 -- and is live there
 there : (c : In-Live) → (c.args.slot < c.keeper.inside.settings.slots) × (slot_at c.keeper.inside.seat.view.slots c.args.slot ≡ Live c.in-Live.entry)
@@ -27,11 +26,17 @@ there c = live_in _ _ _ _ _ c.keeper.invariant.0.rows (state_at c.keeper.inside.
 hidden : (c : After-hide) → IsOurKeeper c.keeper.inside.settings c.hide.new.keeper.view c.keeper.inside.rows.items c.keeper.inside.changes
 hidden c = stored_keeper _ _ _ _ _ c.args.slot 0 c.keeper.invariant.0 c.hide.ensures.change (step_is_shown c.hide.ensures.step.event)
 
-before : (c : After-slot_above-before) → IsBefore (states_of c.keeper.inside.rows.items) c.in-Live.entry.number c.slot_above-before.result
-before c = subst (λ (rows : List KeptSlot). IsBefore (states_of rows) c.in-Live.entry.number c.slot_above-before.result) c.deref.ensures.value c.slot_above-before.ensures.before
+-- the rows say what is above and what is below
 
-leads : (c : After-link_below-link) → LeadsBelow (states_of c.keeper.inside.rows.items) c.in-Live.entry.number c.link_below-link.result
-leads c = subst (λ (rows : List KeptSlot). LeadsBelow (states_of rows) c.in-Live.entry.number c.link_below-link.result) c.deref-2.ensures.value c.link_below-link.ensures
+before : (c : After-slot_above-before) → StandsBefore c.keeper.inside.rows.items c.args.slot c.slot_above-before.result
+before c =
+    let live = ap (λ (x : OnPlainKeeper). slot_at x.keeper.slots c.args.slot) c.keeper.view_is ∙ c.requires.live.1 in
+    before_read c.keeper.inside.rows.items c.deref.result.now c.args.slot _ _ (live_read _ _ _ _ _ _ c.keeper.invariant.0.rows live c.index-2.ensures) c.deref.ensures.value c.slot_above-before.ensures.before
+
+leads : (c : After-link_below-link) → LeadsFrom c.keeper.inside.rows.items c.args.slot c.link_below-link.result
+leads c =
+    let live = ap (λ (x : OnPlainKeeper). slot_at x.keeper.slots c.args.slot) c.keeper.view_is ∙ c.requires.live.1 in
+    leads_read c.keeper.inside.rows.items c.deref-2.result.now c.args.slot _ _ (live_read _ _ _ _ _ _ c.keeper.invariant.0.rows live c.index-2.ensures) c.deref-2.ensures.value c.link_below-link.ensures
 
 pub hide-requires-clause-place : goal.hide-requires-clause-place
 hide-requires-clause-place c =
@@ -79,7 +84,7 @@ invariant_of-keeper c =
       subst (λ (r : KeptSlot). IsOurKeeper a l (set inside.rows.items t (row_retired r c.in-Live.entry)) (inside.changes + 1)) (sym row)
           (detached_keeper _ _ _ _ _ _ _ p v _ our (is_live at.In-Live) taken.1.size is c.snapshots.ensures.is_shown),
       subst (λ (ms : List Mark). MarksAgree a l ms) (sym (written_back (vec_len inside.marks) inside.marks.items c.snapshots.new.marks (taken.3.size ∙ c.deref_mut.ensures.len)))
-          (detached_marks _ _ _ _ _ _ _ p v _ our.view marks live.0 written is),
+          (taken_marks _ _ _ _ _ _ _ our.view marks live.0 written (ap (λ (x : KeeperView). x.marks) is)),
     )
 
 pub returns-clause-change : goal.returns-clause-change
@@ -100,9 +105,9 @@ returns-clause-change c =
     let b : OnKeeper = record { view = c.snapshots.new.seat.view; slots = states_of (set rows t new); log = c.snapshots.new.seat.log } in
     subst (λ (x : OnPlainKeeper). HasDetached x.keeper t e b) c.keeper.view_is record {
       before = p;
-      is_before = before_in _ _ _ _ p our.view our.rows (before at.After-slot_above-before);
+      is_before = before_row _ _ _ _ _ p our.view our.rows (is_live at.In-Live) (before at.After-slot_above-before);
       link = v;
-      leads = leads_in _ _ _ _ v our.view our.rows (leads at.After-link_below-link);
+      leads = leads_row _ _ _ _ _ v our.view our.rows (is_live at.In-Live) (leads at.After-link_below-link);
       hidden = subst (λ (x : KeeperView). Makes (Hide t) Done (Keeper k) (Keeper x)) hid c.hide.ensures.step.event;
       made = subst (λ (x : KeeperView). Makes (Unpublish t) Done (Keeper x) (Keeper (keeper_after_unpublish x t e p v))) hid
           (subst (λ (x : KeeperView). Makes (Unpublish t) Done (Keeper h) (Keeper x)) (unpublished_is h c.unpublish.new.keeper.view t e p v live.1 c.unpublish.ensures.change) c.unpublish.ensures.step.event);

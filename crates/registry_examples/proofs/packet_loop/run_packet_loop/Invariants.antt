@@ -1,9 +1,8 @@
 use Rattle.registry_examples.proofs.packet_loop.run_packet_loop.Given as goal
-use Rattle.registry_values.specs.declared.limits.TheConstants.{MOST_CPUS}
 
 -- the registry that was just made
 abbrev pub ghosts-run_on-D-Domain : goal.ghosts-run_on-D-Domain
 ghosts-run_on-D-Domain g a = record { table = a.blank.table; settings = a.blank.settings }
 
 abbrev pub ghosts-run_on-D-Ledger : goal.ghosts-run_on-D-Ledger
-ghosts-run_on-D-Ledger g a = record { name = a.blank.changes; parts = MOST_CPUS }
+ghosts-run_on-D-Ledger g a = record { name = a.blank.changes; parts = a.blank.settings.cpus }

@@ -4,4 +4,4 @@ use Rattle.c_handles.proofs.Written.{copied_more}
 use Rattle.c_handles.proofs.values.texts.write_text.Goals as goal
 
 pub loop-k-preserved : goal.loop-k-preserved
-loop-k-preserved c = copied_more _ _ _ _ _ (omega (arith, c.loop-k-test.true, c.fitting-count.ensures.room, c.loop-k.invariant.size)) refl c.loop-k.invariant
+loop-k-preserved c = copied_more _ _ _ _ _ (omega (arith, c.loop-k-test.true, c.requires, c.loop-k.invariant.size)) refl c.loop-k.invariant

@@ -1,5 +1,5 @@
 -- Snapshots change nothing of the history, and the CPU has the share that it had.
-use Rattle.name_registry.proofs.Counted.{begun_same, still_booked, begun}
+use Rattle.name_registry.proofs.Counted.{begun_same, still_booked}
 use Rattle.name_registry.proofs.performing.LockedUnderInterlock.begin.Goals as goal
 
 pub invariant_of-deref_mut-clause-counted : goal.invariant_of-deref_mut-clause-counted

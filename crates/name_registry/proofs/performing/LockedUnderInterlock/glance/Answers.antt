@@ -1,5 +1,5 @@
 -- Glances change nothing of the history, and the CPU has the share that it had.
-use Rattle.name_registry.proofs.Counted.{glanced_same, still_booked, glanced}
+use Rattle.name_registry.proofs.Counted.{glanced_same, still_booked}
 use Rattle.name_registry.proofs.performing.LockedUnderInterlock.glance.Goals as goal
 
 pub invariant_of-deref_mut-clause-counted : goal.invariant_of-deref_mut-clause-counted

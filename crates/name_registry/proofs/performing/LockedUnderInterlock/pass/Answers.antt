@@ -17,5 +17,5 @@ returns g c =
     let k = c.deref_mut.result.now.keeper.keeper in
     let b = c.pass_all in
     let m = c.cpu.inside.share.amount in
-    let had = subst (λ (z : Settings). HasPassedAll z k c.deref_mut-2.result.now.cpu c.args.numbers.now b.new.keeper.keeper b.new.cpu.cpu) c.deref_mut.result.now.named.1 b.ensures.passed in
-    (k, b.new.keeper.keeper, subst (λ (x : OnCpu). HasPassedAll g.D.Domain.settings k x c.args.numbers.now b.new.keeper.keeper (sharing m b.new.cpu.cpu)) (shared m _ _ _ c.deref_mut-2.ensures.value c.cpu.view_is) (passed m _ _ _ _ _ _ had))
+    let had = subst (λ (z : Settings). HasPassedAll z k c.deref_mut-2.result.now.cpu c.args.retired.now b.new.keeper.keeper b.new.cpu.cpu) c.deref_mut.result.now.named.1 b.ensures.passed in
+    (k, b.new.keeper.keeper, subst (λ (x : OnCpu). HasPassedAll g.D.Domain.settings k x c.args.retired.now b.new.keeper.keeper (sharing m b.new.cpu.cpu)) (shared m _ _ _ c.deref_mut-2.ensures.value c.cpu.view_is) (passed m _ _ _ _ _ _ had))

@@ -4,7 +4,7 @@ use Rattle.name_registry.specs.Common.{IsPerformRefusal, is_inside}
 use Rattle.name_registry.proofs.Attached.{inside_is}
 use Rattle.name_registry.proofs.Noted.{waited_outside, waiting_refused}
 use Rattle.name_registry.proofs.Passed.{performs_outside, told_small}
-use Rattle.name_registry.proofs.Waited.{learns_performed, waited_ok}
+use Rattle.name_registry.proofs.Waited.{learns_performed, promised, waited_ok}
 use Rattle.name_registry.proofs.registry.Registry.perform.Goals as goal
 
 pub returns : goal.returns
@@ -21,6 +21,7 @@ returns g c =
       refused = subst (λ (r : Result (Unit {0}) Refusal). IfErr r (λ f. IsPerformRefusal z (is_inside x) f)) (sym is)
           (waiting_refused z (is_inside x) told outside (told_small z c.args.turns x y told made));
       waited = waited_ok z c.args.turns x told y c.waiting_for.result is made;
+      ended = promised z x y c.waiting_for.result (waited_ok z c.args.turns x told y c.waiting_for.result is made);
       made = performs_outside z c.args.turns (is_inside x) x y told c.waiting_for.result outside is made;
       learned = learns_performed z c.args.turns x told y made;
     }

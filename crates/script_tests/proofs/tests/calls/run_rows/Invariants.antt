@@ -1,4 +1,3 @@
-use Rattle.registry_values.specs.declared.limits.TheConstants.{MOST_CPUS}
 use Rattle.script_tests.proofs.tests.calls.run_rows.Given as goal
 
 -- the registry that was just made
@@ -6,4 +5,4 @@ abbrev pub ghosts-run_row-D-Domain : goal.ghosts-run_row-D-Domain
 ghosts-run_row-D-Domain g a = record { table = a.blank.table; settings = a.blank.settings }
 
 abbrev pub ghosts-run_row-D-Ledger : goal.ghosts-run_row-D-Ledger
-ghosts-run_row-D-Ledger g a = record { name = a.blank.changes; parts = MOST_CPUS }
+ghosts-run_row-D-Ledger g a = record { name = a.blank.changes; parts = a.blank.settings.cpus }

@@ -1,9 +1,0 @@
--- The handle of a local reference may go to another thread, as its body may.
-use denote.Param.Send.{IsSend}
-use Rattle.c_handles.proofs.SpareSent.{keyless, sent}
-use Rattle.c_handles.specs.contracts.local_body.LocalBody.{the_row as body}
-use Rattle.c_handles.specs.contracts.handle.LocalHandle.{the_row, the_type}
-use Rattle.c_handles.proofs.local_body.LocalBody.TheSendSync.{the_send}
-
-pub send : IsSend the_row
-send = sent the_type (λ h. (h.at, tt)) (λ h. keyless body the_send h.at h.body)

@@ -1,0 +1,13 @@
+-- `with_driver` keeps both.
+use Rattle.std.proofs.Common.{refl}
+use Rattle.c_handles.proofs.Answered.{joined}
+use Rattle.c_handles.specs.contracts.values.answer.NamedAnswer.{the_type as from}
+use Rattle.c_handles.specs.contracts.values.given.GivenName.{the_type as other}
+use Rattle.c_handles.specs.contracts.values.answer.IfaceAnswer.{the_type as into}
+use Rattle.c_handles.specs.contracts.values.answer.NamedAnswer.with_driver as f
+use Rattle.c_handles.proofs.values.answer.NamedAnswer.with_driver.Statement.{statement}
+use Rattle.c_handles.proofs.values.answer.NamedAnswer.with_driver.Code as code
+
+pub with_driver_spec : {M : Type 1} → statement M
+with_driver_spec 𝓤 𝓛 𝓜 𝓡 wired = joined from other into (λ a. a.number) (λ g. (g.at, tt)) (λ a. a.number) 𝓛 𝓜 𝓡 (λ a g. record { number = a.number; place = a.place; name = a.name; driver = g })
+    (λ a g. refl) (λ a g. refl) (f.clauses 𝓛 𝓜.mem 𝓡.returns) (λ y. (_, refl, refl)) f.Key.name (code.unfolded 𝓤 𝓛.H 𝓜 𝓡 wired)

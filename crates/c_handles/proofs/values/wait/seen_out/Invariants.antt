@@ -1,7 +1,0 @@
-use Rattle.std.proofs.Common.{◌≡◌, ◌<◌, ℕ, length, get_or, false}
-use Rattle.c_handles.specs.values.Texts.{flag_of}
-use Rattle.c_handles.proofs.values.wait.seen_out.Given as goal
-use Rattle.c_handles.specs.Types.{MOST_CPUS}
-
-abbrev pub invariant-loop-c : goal.invariant-loop-c
-invariant-loop-c l = (length l.out ≡ MOST_CPUS) × ((k : ℕ) → k < l.c → get_or l.out k 0 ≡ flag_of (get_or l.seen k false))

@@ -1,0 +1,12 @@
+//! What is taken out of a local reference's handle.
+
+use crate::local_body::LocalBody;
+use std::alloc::Global;
+use std_alloc::room::Vacant;
+
+/// Of a handle that had nothing, nothing. Of a copied one a share of the reference, which others have still. Else the reference, and its block.
+pub enum LocalTaken {
+    Nothing,
+    Share,
+    Reference(LocalBody, Vacant<LocalBody, Global>),
+}

@@ -1,0 +1,122 @@
+-- A lookup and a get by a CPU with a share of a ledger: what is told of the CPU without the share is told of it.
+use Rattle.std.proofs.Common.{◌≡◌, ◌⊎◌, ℕ, Option, Some, None, Result, Ok, Err, inl, inr, refl, sym, ap, subst, ◌∙◌}
+use Rattle.name_registry.specs.Types.{Entry, Key, NotFound, Refusal, Seen}
+use Rattle.protocol.specs.Common.{entry_with}
+use Rattle.passive_list.specs.Common.{AnswersEnter, FindsWhatIsKept, FindsWhatStays, HasFoundByMemory, OnCpu, entry_seen}
+use Rattle.passive_list.proofs.Sharing.{found_by_memory, found_inside, sharing}
+use Rattle.passive_ref.specs.{IsAcquired, OnPsref, why_not_acquired}
+use Rattle.passive_ref.proofs.Gets.{got_by_memory}
+use Rattle.name_registry.specs.LookingUp.{FindsAndAcquires, Gets, GetsAnew, GetsFound, GetsInSection, LooksByMemory, LooksInside, LooksUp, TriedSo, Tries, found_or, got_of, looked_up}
+
+entered : (m : ℕ) (a b : OnCpu) (r : Result (Unit {0}) Refusal) → AnswersEnter a b r → AnswersEnter (sharing m a) (sharing m b) r
+entered m a b (Ok tt) had = record { answer = (had.answer.0, assumption had.answer.1); refused = tt }
+entered m a b (Err f) had = record { answer = had.answer; refused = ap (sharing m) had.refused }
+
+inside : (m : ℕ) (key : Key) (a b : OnCpu) (r : Result Entry Refusal) → LooksInside key a b r → LooksInside key (sharing m a) (sharing m b) r
+inside m key a b r had = record { seen = had.seen; is = had.is; finds = found_inside m key a b had.seen had.finds; stays = had.stays; kept = had.kept }
+
+by_memory : (m : ℕ) (key : Key) (a b : OnCpu) (r : Result Entry Refusal) → LooksByMemory key a b r → LooksByMemory key (sharing m a) (sharing m b) r
+by_memory m key a b r had = record { seen = had.seen; is = had.is; finds = found_by_memory m key a b had.seen had.finds; stays = had.stays; kept = had.kept }
+
+-- a lookup
+looks : (m : ℕ) (key : Key) (a b : OnCpu) (r : Result Entry Refusal) → LooksUp key a b r → LooksUp key (sharing m a) (sharing m b) r
+looks m key a b r had = record {
+  by_memory = λ may. by_memory m key a b r (had.by_memory may);
+  spent = λ spent. ((had.spent spent).0, ap (sharing m) (had.spent spent).1);
+  inside = λ deep. inside m key a b r (had.inside deep);
+}
+
+pub looks_up : (m : ℕ) (key : Key) (a b : OnCpu) (r : Result Seen Refusal) (s : Result Entry Refusal) → LooksUp key a b (looked_up key r) → s ≡ looked_up key r → LooksUp key (sharing m a) (sharing m b) s
+looks_up m key a b r s had is = subst (LooksUp key (sharing m a) (sharing m b)) (sym is) (looks m key a b (looked_up key r) had)
+
+-- A get
+
+-- what an acquire of the last found entry returns and leaves
+abbrev Acquired : OnCpu → OnCpu → Entry → Result (Entry × OnPsref) Refusal → Type 0
+Acquired a b e r = ((f : Refusal) × (why_not_acquired a.view a.view.found ≡ Some f) × (r ≡ Err f) × (b ≡ a)) ⊎ ((p : OnPsref) × (r ≡ Ok (e, p)) × IsAcquired a b p)
+
+acquired : (m : ℕ) (a b : OnCpu) (e : Entry) (r : Result (Entry × OnPsref) Refusal) → Acquired a b e r → Acquired (sharing m a) (sharing m b) e r
+acquired m a b e r (inl (f, why, is, same)) = inl (f, why, is, ap (sharing m) same)
+acquired m a b e r (inr (p, is, (last, found, new))) = inr (p, is, (last, found, record { cpu = new.cpu; number = new.number; after = ap (sharing m) new.after }))
+
+both : (m : ℕ) (key : Key) (a b : OnCpu) (r : Result (Entry × OnPsref) Refusal) → FindsAndAcquires key a b r → FindsAndAcquires key (sharing m a) (sharing m b) r
+both m key a b r had = record {
+  looked = had.looked;
+  middle = sharing m had.middle;
+  looks = inside m key a had.middle had.looked had.looks;
+  none = λ f is. ((had.none f is).0, ap (sharing m) (had.none f is).1);
+  some = λ e is. acquired m had.middle b e r (had.some e is);
+}
+
+in_section : (m : ℕ) (key : Key) (a b : OnCpu) (r : Result (Entry × OnPsref) Refusal) → GetsInSection key a b r → GetsInSection key (sharing m a) (sharing m b) r
+in_section m key a b r had = record {
+  first = sharing m had.first;
+  entered = had.entered;
+  enters = entered m a had.first had.entered had.enters;
+  refused = λ f is. ((had.refused f is).0, ap (sharing m) (had.refused f is).1);
+  inside = λ ok. let g = had.inside ok in (sharing m g.0, both m key had.first g.0 r g.1, assumption g.2);
+}
+
+tried_so : (m : ℕ) (key : Key) (c b : OnCpu) (o : Option (Seen × OnPsref)) (r : Result (Entry × OnPsref) Refusal) (P Q : OnCpu → Type 0) → ((x : OnCpu) → P x → Q (sharing m x)) → TriedSo key c b o r P
+    → TriedSo key (sharing m c) (sharing m b) o r Q
+tried_so m key c b None r P Q more had = more c had
+tried_so m key c b (Some g) r P Q more had = (had.0, ap (sharing m) had.1)
+
+tries : (m : ℕ) (key : Key) (a b : OnCpu) (r : Result (Entry × OnPsref) Refusal) (P Q : OnCpu → Type 0) → ((x : OnCpu) → P x → Q (sharing m x)) → Tries key a b r P → Tries key (sharing m a) (sharing m b) r Q
+tries m key a b r P Q more had =
+    record { tried = sharing m had.tried; got = had.got; gets = got_by_memory m key a had.tried had.got had.gets; after = tried_so m key had.tried b had.got r P Q more had.after }
+
+found : (m : ℕ) (key : Key) (a b : OnCpu) (r : Result (Entry × OnPsref) Refusal) → GetsFound key a b r → GetsFound key (sharing m a) (sharing m b) r
+found m key a b r had = tries m key a b r (λ c. GetsInSection key c b r) (λ c. GetsInSection key c (sharing m b) r) (λ c more. in_section m key c b r more) had
+
+anew : (m : ℕ) (key : Key) (a b : OnCpu) (r : Result (Entry × OnPsref) Refusal) → GetsAnew key a b r → GetsAnew key (sharing m a) (sharing m b) r
+anew m key a b r had = record {
+  middle = sharing m had.middle;
+  looked = had.looked;
+  looks = by_memory m key a had.middle had.looked had.looks;
+  none = λ f is. ((had.none f is).0, ap (sharing m) (had.none f is).1);
+  some = λ e is. found m key had.middle b r (had.some e is);
+}
+
+gets : (m : ℕ) (key : Key) (a b : OnCpu) (r : Result (Entry × OnPsref) Refusal) → Gets key a b r → Gets key (sharing m a) (sharing m b) r
+gets m key a b r had = record {
+  by_memory = λ may. tries m key a b r (λ c. GetsAnew key c b r) (λ c. GetsAnew key c (sharing m b) r) (λ c more. anew m key c b r more) (had.by_memory may);
+  spent = λ spent. ((had.spent spent).0, ap (sharing m) (had.spent spent).1);
+  inside = λ deep. both m key a b r (had.inside deep);
+}
+
+pub gets_so : (m : ℕ) (key : Key) (a b : OnCpu) (r : Result (Seen × OnPsref) Refusal) (s : Result (Entry × OnPsref) Refusal) → Gets key a b (got_of key r) → s ≡ got_of key r
+    → Gets key (sharing m a) (sharing m b) s
+gets_so m key a b r s had is = subst (Gets key (sharing m a) (sharing m b)) (sym is) (gets m key a b (got_of key r) had)
+
+-- A lookup before a get
+
+same_refusal : (f g : Refusal) → ◌≡◌ {A = Result Entry Refusal} (Err f) (Err g) → f ≡ g
+same_refusal f g is = cc
+
+-- it finds nothing
+pub missed_anew : (key : Key) (a b : OnCpu) (o : Option Seen) → o ≡ None → HasFoundByMemory key a b o → FindsWhatStays key a.view.pass b.view.pass (entry_seen key o)
+    → FindsWhatIsKept key a.view.pass b.view.pass (entry_seen key o) → GetsAnew key a b (Err NotFound)
+missed_anew key a b o none finds stays kept =
+    let missed : found_or (entry_seen key o) ≡ Err NotFound = ap (λ (x : Option Seen). found_or (entry_seen key x)) none in
+    record {
+      middle = b;
+      looked = found_or (entry_seen key o);
+      looks = record { seen = o; is = refl; finds = finds; stays = stays; kept = kept };
+      none = λ f is. (ap (λ (x : Refusal). Err x) (same_refusal NotFound f (sym missed ∙ is)), refl);
+      some = λ e is. let clash : ◌≡◌ {A = Result Entry Refusal} (Err NotFound) (Ok e) = sym missed ∙ is in cc;
+    }
+
+-- it finds an entry
+pub found_anew : (key : Key) (a c b : OnCpu) (o : Option Seen) (r : Result (Entry × OnPsref) Refusal) → (o ≡ None → ⊥) → HasFoundByMemory key a c o
+    → FindsWhatStays key a.view.pass c.view.pass (entry_seen key o) → FindsWhatIsKept key a.view.pass c.view.pass (entry_seen key o) → GetsFound key c b r → GetsAnew key a b r
+found_anew key a c b None r some finds stays kept gets = absurd (some refl)
+found_anew key a c b (Some s) r some finds stays kept gets =
+    let e : Entry = entry_with key s.slot s.number s.value in
+    record {
+      middle = c;
+      looked = Ok e;
+      looks = record { seen = Some s; is = refl; finds = finds; stays = stays; kept = kept };
+      none = λ f is. let clash : ◌≡◌ {A = Result Entry Refusal} (Ok e) (Err f) = is in cc;
+      some = λ f is. gets;
+    }

@@ -1,0 +1,587 @@
+/*
+ * programs - random programs come to the same outcomes, faults and deadlocks with the reduction and without
+ *
+ *     programs SECONDS [FIRST]     programs with the seeds from FIRST on, for so long
+ *     programs count COUNT FIRST   so many that were compared to their end
+ *     programs seed FIRST          that one alone, with what it comes to
+ *
+ * A program has two or three threads, each bound to a CPU or not. A thread does one thing of a list, with up to two simpler ones before and after it.
+ */
+#include <stdlib.h>
+#include <sys/atomic.h>
+#include <sys/callout.h>
+#include <sys/condvar.h>
+#include <sys/cpu.h>
+#include <sys/intr.h>
+#include <sys/kmem.h>
+#include <sys/kthread.h>
+#include <sys/localcount.h>
+#include <sys/lwp.h>
+#include <sys/module_hook.h>
+#include <sys/mutex.h>
+#include <sys/percpu.h>
+#include <sys/pool.h>
+#include <sys/pserialize.h>
+#include <sys/psref.h>
+#include <sys/rwlock.h>
+#include <sys/systm.h>
+#include <sys/workqueue.h>
+#include <sys/xcall.h>
+#include <time.h>
+
+#include "compare.h"
+
+/* What is seen has a row for each thread, and for the threads of works, of calls, and of soft interrupts on the first three CPUs. */
+enum { MOST = 3, LONGEST = 5, OF_WORK = MOST, OF_CALL, OF_SOFTINT, ROWS_SEEN = OF_SOFTINT + 3, ROOM = 9, FEW = 3 };
+
+static unsigned words[2];	/* by atomic accesses */
+static kmutex_t locks[2], spin;
+static krwlock_t rw;
+static kcondvar_t cv;
+static bool flag, gone, drained;
+static pserialize_t psz;
+static struct psref_class *things;
+static struct psref_target target;
+static struct localcount local;
+static void *softints[3];
+static callout_t callout;
+static percpu_t *percpu;
+static struct workqueue *queue;
+static struct work works[MOST];
+static pool_cache_t cache;
+MODULE_HOOK(hook, unsigned, (void));
+struct hook_t hook;
+
+static char seen[ROWS_SEEN][ROOM];
+static unsigned count[ROWS_SEEN];
+
+UNSEEN static void observe(unsigned row, unsigned value)
+{
+	if (count[row] < (row < MOST ? ROOM - 1 : FEW))
+		seen[row][count[row]++] = (char)(value == 0 ? '-' : 'a' + (value - 1) % 26);
+}
+
+static unsigned load(unsigned at) { return atomic_load_relaxed(&words[at]); }
+static void store(unsigned at, unsigned value) { atomic_store_relaxed(&words[at], value); }
+
+/* ---- What a thread does. ---- */
+
+static void load_0(unsigned thread) { observe(thread, load(0)); }
+static void load_1(unsigned thread) { observe(thread, load(1)); }
+static void store_0(unsigned thread) { store(0, thread + 1); }
+static void store_1(unsigned thread) { store(1, thread + 1); }
+static void add_0(unsigned thread) { observe(thread, atomic_inc_uint_nv(&words[0])); }
+
+static void lock_and_load(unsigned thread)
+{
+	mutex_enter(&locks[0]);
+	observe(thread, load(0));
+	mutex_exit(&locks[0]);
+}
+
+static void lock_and_store(unsigned thread)
+{
+	mutex_enter(&locks[0]);
+	store(1, thread + 4);
+	mutex_exit(&locks[0]);
+}
+
+static void lock_both(unsigned thread, unsigned first)
+{
+	mutex_enter(&locks[first]);
+	mutex_enter(&locks[1 - first]);
+	observe(thread, load(first));
+	mutex_exit(&locks[1 - first]);
+	mutex_exit(&locks[first]);
+}
+
+static void lock_01(unsigned thread) { lock_both(thread, 0); }
+static void lock_10(unsigned thread) { lock_both(thread, 1); }
+
+static void try_lock(unsigned thread)
+{
+	int got = mutex_tryenter(&locks[0]);
+	observe(thread, (unsigned)got);
+	if (got)
+		mutex_exit(&locks[0]);
+}
+
+static void spin_and_load(unsigned thread)
+{
+	mutex_enter(&spin);
+	observe(thread, load(1));
+	mutex_exit(&spin);
+}
+
+static void spin_and_store(unsigned thread)
+{
+	mutex_enter(&spin);
+	store(0, thread + 7);
+	mutex_exit(&spin);
+}
+
+static void read_lock(unsigned thread)
+{
+	rw_enter(&rw, RW_READER);
+	observe(thread, load(0));
+	rw_exit(&rw);
+}
+
+static void write_lock(unsigned thread)
+{
+	rw_enter(&rw, RW_WRITER);
+	store(0, thread + 10);
+	rw_exit(&rw);
+}
+
+static void read_section(unsigned thread)
+{
+	int s = pserialize_read_enter();
+	observe(thread, load(0));
+	pserialize_read_exit(s);
+}
+
+static void read_section_twice(unsigned thread)
+{
+	int s = pserialize_read_enter();
+	observe(thread, load(0));
+	observe(thread, load(1));
+	pserialize_read_exit(s);
+}
+
+static void perform(unsigned thread) { (void)thread; pserialize_perform(psz); }
+static void barrier(unsigned thread) { (void)thread; xc_barrier(0); }
+
+static void store_by_call(void *value, void *at) { store((unsigned)(uintptr_t)at, (unsigned)(uintptr_t)value); }
+static void load_by_call(void *at, void *of) { observe(OF_CALL, load((unsigned)(uintptr_t)at)); (void)of; }
+static void do_nothing(void *one, void *other) { (void)one; (void)other; }
+static uint64_t ask_all(unsigned thread) { return xc_broadcast(0, store_by_call, (void *)(uintptr_t)(thread + 13), NULL); }
+
+static uint64_t ask_one(unsigned thread, unsigned flags, unsigned cpu)
+{
+	return xc_unicast(flags, store_by_call, (void *)(uintptr_t)(thread + 16), (void *)(uintptr_t)cpu, kupaldiz_cpu(cpu));
+}
+
+static void call_all(unsigned thread) { xc_wait(ask_all(thread)); }
+static void call_all_later(unsigned thread) { uint64_t ticket = ask_all(thread); load_0(thread); xc_wait(ticket); }
+static void call_nobody(unsigned thread) { (void)thread; xc_wait(xc_broadcast(0, do_nothing, NULL, NULL)); }
+static void call_one(unsigned thread) { xc_wait(ask_one(thread, 0, 0)); }
+static void call_other(unsigned thread) { xc_wait(ask_one(thread, 0, 1)); }
+static void call_one_above(unsigned thread) { xc_wait(ask_one(thread, XC_HIGHPRI, 0)); }
+static void call_one_later(unsigned thread) { uint64_t ticket = ask_one(thread, 0, 0); load_0(thread); xc_wait(ticket); }
+static void call_one_alone(unsigned thread) { (void)ask_one(thread, 0, 0); }
+static void call_to_load(unsigned thread) { (void)thread; xc_wait(xc_unicast(0, load_by_call, NULL, NULL, kupaldiz_cpu(0))); }
+static void call_one_for_nothing(unsigned thread) { (void)thread; xc_wait(xc_unicast(0, do_nothing, NULL, NULL, kupaldiz_cpu(5))); }
+
+static void look_at(void *own, void *thread, struct cpu_info *cpu)
+{
+	(void)own;
+	if (cpu_index(cpu) == 0)
+		observe((unsigned)(uintptr_t)thread, load(0));
+}
+
+static void look_at_parts(unsigned thread) { percpu_foreach(percpu, look_at, (void *)(uintptr_t)thread); }
+static void call_for_parts(unsigned thread) { percpu_foreach_xcall(percpu, 0, look_at, (void *)(uintptr_t)thread); }
+static void use_part(unsigned thread) { (void)percpu_getref(percpu); observe(thread, load(0)); percpu_putref(percpu); }
+
+static unsigned hooked(void) { return load(1) + 2; }
+static void set_hook(unsigned thread) { (void)thread; MODULE_HOOK_SET(hook, hooked); }
+static void unset_hook(unsigned thread) { (void)thread; MODULE_HOOK_UNSET(hook); }
+
+static void call_hook(unsigned thread)
+{
+	unsigned got;
+	MODULE_HOOK_CALL(hook, (), 1, got);
+	observe(thread, got);
+}
+
+static void enqueue(unsigned thread) { workqueue_enqueue(queue, &works[thread], NULL); }
+static void await_work(unsigned thread) { workqueue_wait(queue, &works[thread]); }
+static void schedule_0(unsigned thread) { (void)thread; softint_schedule(softints[0]); }
+static void schedule_1(unsigned thread) { (void)thread; softint_schedule(softints[1]); }
+static void schedule_2(unsigned thread) { (void)thread; softint_schedule(softints[2]); }
+
+static void raise_and_store(unsigned thread)
+{
+	int s = splnet();
+	store(1, thread + 19);
+	splx(s);
+}
+
+static void load_without_preemption(unsigned thread)
+{
+	kpreempt_disable();
+	observe(thread, load(1));
+	kpreempt_enable();
+}
+
+/* Acquires a passive reference where the target isn't gone, and looks at a word while it has it. */
+static void refer(unsigned thread)
+{
+	struct psref psref;
+	int bound = curlwp_bind(), s = pserialize_read_enter();
+	bool found = !atomic_load_acquire(&gone);
+	if (found)
+		psref_acquire(&psref, &target, things);
+	pserialize_read_exit(s);
+	observe(thread, found);
+	if (found) {
+		observe(thread, load(0));
+		psref_release(&psref, &target, things);
+	}
+	curlwp_bindx(bound);
+}
+
+static void destroy(unsigned thread)
+{
+	(void)thread;
+	if (atomic_swap_uint((unsigned *)&words[1], 3) == 3)
+		return;
+	atomic_store_release(&gone, true);
+	pserialize_perform(psz);
+	psref_target_destroy(&target, things);
+}
+
+/* The same of a local reference. */
+static void count_in(unsigned thread)
+{
+	int s = pserialize_read_enter();
+	bool found = !atomic_load_acquire(&drained);
+	if (found)
+		localcount_acquire(&local);
+	pserialize_read_exit(s);
+	if (found) {
+		observe(thread, load(1));
+		localcount_release(&local, &cv, &locks[1]);
+	}
+}
+
+/* A reference that the thread has from the beginning. */
+static void count_out(unsigned thread) { (void)thread; localcount_release(&local, &cv, &locks[1]); }
+
+static void drain(unsigned thread)
+{
+	(void)thread;
+	mutex_enter(&locks[1]);
+	bool first = !drained;
+	atomic_store_release(&drained, true);
+	if (first) {
+		pserialize_perform(psz);
+		localcount_drain(&local, &cv, &locks[1]);
+	}
+	mutex_exit(&locks[1]);
+}
+
+static void await_flag(unsigned thread)
+{
+	(void)thread;
+	mutex_enter(&locks[0]);
+	while (!flag)
+		cv_wait(&cv, &locks[0]);
+	mutex_exit(&locks[0]);
+}
+
+static void set_flag(unsigned thread)
+{
+	(void)thread;
+	mutex_enter(&locks[0]);
+	flag = true;
+	cv_broadcast(&cv);
+	mutex_exit(&locks[0]);
+}
+
+static void await_flag_for_a_tick(unsigned thread)
+{
+	mutex_enter(&locks[0]);
+	if (!flag)
+		observe(thread, cv_timedwait(&cv, &locks[0], 1) == 0 ? 1 : 2);
+	mutex_exit(&locks[0]);
+}
+
+static void wake_one(unsigned thread) { (void)thread; cv_signal(&cv); }
+static void pause_once(unsigned thread) { (void)thread; (void)kpause("programs", false, 1, NULL); }
+static void ring(void *arg) { (void)arg; store(0, 25); }
+static void set_callout(unsigned thread) { (void)thread; callout_reset(&callout, 1, ring, NULL); }
+static void halt_callout(unsigned thread) { observe(thread, callout_halt(&callout, NULL)); }
+static void stop_callout(unsigned thread) { observe(thread, callout_stop(&callout)); }
+
+static void find_cpu(unsigned thread)
+{
+	int bound = curlwp_bind();
+	observe(thread, cpu_number() + 1);
+	curlwp_bindx(bound);
+}
+
+static void use_cache(unsigned thread)
+{
+	unsigned *object = pool_cache_get(cache, PR_WAITOK);
+	observe(thread, atomic_load_relaxed(object));
+	pool_cache_put(cache, object);
+}
+
+static void run_made(void *arg) { (void)arg; store(1, 24); kthread_exit(0); }
+
+static void make_and_join(unsigned thread)
+{
+	lwp_t *made;
+	EXPECT(kthread_create(PRI_NONE, KTHREAD_MUSTJOIN | KTHREAD_MPSAFE, NULL, run_made, NULL, &made, "made") == 0);
+	observe(thread, load(1));
+	kthread_join(made);
+}
+
+/* ---- The list of them, and what each needs. ---- */
+
+enum {
+	LOCKS = 1, SPIN = 2, RW = 4, CV = 8, PSZ = 16, TARGET = 32, LOCAL = 64, SOFTINTS = 128, CALLOUT = 256, PERCPU = 512, QUEUE = 1024, CACHE = 2048,
+	HOOK = 4096
+};
+
+struct thing {
+	const char *name;
+	void (*body)(unsigned thread);
+	unsigned points, needs;
+};
+
+static const struct thing simple[] = {
+    {"load 0", load_0, 1, 0}, {"load 1", load_1, 1, 0}, {"store 0", store_0, 1, 0}, {"store 1", store_1, 1, 0}, {"add 0", add_0, 1, 0},
+    {"lock, load", lock_and_load, 3, LOCKS}, {"lock, store", lock_and_store, 3, LOCKS}, {"section", read_section, 3, PSZ}, {"signal", wake_one, 1, CV},
+    {"schedule 0", schedule_0, 3, SOFTINTS}, {"ask one", call_one_alone, 4, 0}, {"count out", count_out, 1, LOCAL | LOCKS | CV | PSZ},
+    {"try lock", try_lock, 2, LOCKS}};
+
+static const struct thing things_to_do[] = {
+    {"xc_barrier", barrier, 8, 0}, {"broadcast", call_all, 16, 0}, {"broadcast, load", call_all_later, 17, 0}, {"broadcast nothing", call_nobody, 10, 0},
+    {"unicast", call_one, 5, 0}, {"unicast to 1", call_other, 5, 0}, {"high unicast", call_one_above, 5, 0}, {"unicast, load", call_one_later, 6, 0},
+    {"unicast to load", call_to_load, 5, 0}, {"unicast nothing", call_one_for_nothing, 4, 0}, {"ask one", call_one_alone, 4, 0},
+    {"foreach", look_at_parts, 8, PERCPU}, {"foreach_xcall", call_for_parts, 10, PERCPU}, {"part", use_part, 3, PERCPU},
+    {"hook set", set_hook, 12, HOOK}, {"hook unset", unset_hook, 10, HOOK}, {"hook call", call_hook, 6, HOOK}, {"hook call", call_hook, 6, HOOK},
+    {"enqueue", enqueue, 4, QUEUE}, {"await work", await_work, 2, QUEUE}, {"schedule 0", schedule_0, 3, SOFTINTS},
+    {"schedule 1", schedule_1, 6, SOFTINTS | LOCKS},
+    {"schedule 2", schedule_2, 3, SOFTINTS}, {"section", read_section, 3, PSZ}, {"section twice", read_section_twice, 4, PSZ}, {"perform", perform, 1, PSZ},
+    {"refer", refer, 6, TARGET | PSZ}, {"destroy", destroy, 5, TARGET | PSZ}, {"count in", count_in, 5, LOCAL | LOCKS | CV | PSZ},
+    {"count out", count_out, 1, LOCAL | LOCKS | CV | PSZ}, {"drain", drain, 7, LOCAL | LOCKS | CV | PSZ}, {"lock both", lock_01, 5, LOCKS},
+    {"lock both back", lock_10, 5, LOCKS}, {"try lock", try_lock, 2, LOCKS}, {"spin, load", spin_and_load, 3, SPIN}, {"spin, store", spin_and_store, 3, SPIN},
+    {"reader", read_lock, 3, RW}, {"writer", write_lock, 3, RW}, {"await flag", await_flag, 3, LOCKS | CV}, {"set flag", set_flag, 3, LOCKS | CV},
+    {"await a tick", await_flag_for_a_tick, 4, LOCKS | CV}, {"signal", wake_one, 1, CV}, {"pause", pause_once, 2, 0}, {"set callout", set_callout, 5, CALLOUT},
+    {"halt callout", halt_callout, 1, CALLOUT}, {"stop callout", stop_callout, 1, CALLOUT}, {"raise, store", raise_and_store, 3, 0},
+    {"no preemption, load", load_without_preemption, 3, 0}, {"find CPU", find_cpu, 1, 0}, {"cache", use_cache, 3, CACHE}, {"thread", make_and_join, 4, 0}};
+
+struct text {
+	int cpu;	/* below 0: the thread isn't bound */
+	unsigned length;
+	const struct thing *of[LONGEST];
+};
+
+static struct text texts[MOST];
+static unsigned threads, needs, ticks;
+
+/* ---- What programs work on. ---- */
+
+HANDLER(store_softly, store(1, 22))
+HANDLER(lock_softly, mutex_enter(&locks[0]); store(0, 23); mutex_exit(&locks[0]))
+HANDLER(load_softly, unsigned cpu = cpu_number(); observe(OF_SOFTINT + (cpu < 2 ? cpu : 2), load(0)))
+static void do_work(struct work *done, void *arg) { (void)done; (void)arg; observe(OF_WORK, load(1)); store(0, 21); }
+
+static int make_object(void *arg, void *object, int flags)
+{
+	static unsigned made;
+	(void)arg;
+	(void)flags;
+	*(unsigned *)object = ++made;
+	return 0;
+}
+
+static void make_softints(void)
+{
+	softints[0] = softint_establish(SOFTINT_NET | SOFTINT_MPSAFE, store_softly, NULL);
+	softints[1] = softint_establish(SOFTINT_NET | SOFTINT_MPSAFE, lock_softly, NULL);
+	softints[2] = softint_establish(SOFTINT_CLOCK | SOFTINT_MPSAFE, load_softly, NULL);
+}
+
+static void end_softints(void)
+{
+	for (unsigned at = 0; at < 3; at++)
+		softint_disestablish(softints[at]);
+}
+
+static void make_locks(void) { mutex_init(&locks[0], MUTEX_DEFAULT, IPL_SOFTNET); mutex_init(&locks[1], MUTEX_DEFAULT, IPL_SOFTNET); }
+static void end_locks(void) { mutex_destroy(&locks[0]); mutex_destroy(&locks[1]); }
+static void make_spin(void) { mutex_init(&spin, MUTEX_SPIN, IPL_SOFTNET); }
+static void end_spin(void) { mutex_destroy(&spin); }
+static void make_rw(void) { rw_init(&rw); }
+static void end_rw(void) { rw_destroy(&rw); }
+static void make_cv(void) { cv_init(&cv, "flag"); }
+static void end_cv(void) { cv_destroy(&cv); }
+static void make_psz(void) { psz = pserialize_create(); }
+static void end_psz(void) { pserialize_destroy(psz); }
+static void make_target(void) { things = psref_class_create("thing", IPL_SOFTNET); psref_target_init(&target, things); }
+static void end_target(void) { if (!gone) psref_target_destroy(&target, things); psref_class_destroy(things); }
+static void make_local(void) { localcount_init(&local); }
+static void end_local(void) { drain(0); localcount_fini(&local); }
+static void make_callout(void) { callout_init(&callout, 0); }
+static void end_callout(void) { (void)callout_halt(&callout, NULL); callout_destroy(&callout); }
+static void make_percpu(void) { percpu = percpu_alloc(sizeof(unsigned)); }
+static void end_percpu(void) { percpu_free(percpu, sizeof(unsigned)); }
+static void make_queue(void) { EXPECT(workqueue_create(&queue, "queue", do_work, NULL, PRI_NONE, IPL_NONE, WQ_MPSAFE) == 0); }
+static void end_queue(void) { workqueue_destroy(queue); }
+static void make_cache(void) { cache = pool_cache_init(sizeof(unsigned), 0, 0, 0, "cache", NULL, IPL_NONE, make_object, NULL, NULL); }
+static void end_cache(void) { pool_cache_destroy(cache); }
+static void make_hook(void) { }
+static void end_hook(void) { if (hook.hooked) MODULE_HOOK_UNSET(hook); }
+
+static const struct made {
+	unsigned need;
+	void (*make)(void), (*end)(void);
+} all_made[] = {{LOCKS, make_locks, end_locks}, {SPIN, make_spin, end_spin}, {RW, make_rw, end_rw}, {CV, make_cv, end_cv}, {PSZ, make_psz, end_psz},
+    {TARGET, make_target, end_target}, {LOCAL, make_local, end_local}, {SOFTINTS, make_softints, end_softints}, {CALLOUT, make_callout, end_callout},
+    {PERCPU, make_percpu, end_percpu}, {QUEUE, make_queue, end_queue}, {CACHE, make_cache, end_cache}, {HOOK, make_hook, end_hook}};
+
+UNSEEN static void run_text(void *arg)
+{
+	const struct text *text = arg;
+	unsigned thread = (unsigned)(text - texts);
+	if (text->cpu >= 0)
+		kupaldiz_bind((unsigned)text->cpu);
+	for (unsigned at = 0; at < text->length; at++)
+		text->of[at]->body(thread);
+}
+
+static void begin(void)
+{
+	static const char *const names[MOST] = {"one", "two", "three"};
+	for (const struct made *it = all_made; it < &all_made[sizeof(all_made) / sizeof(all_made[0])]; it++)
+		if ((needs & it->need) != 0)
+			it->make();
+	for (unsigned thread = 0; thread < threads; thread++) {
+		for (unsigned at = 0; at < texts[thread].length; at++)
+			if (texts[thread].of[at]->body == count_out)
+				localcount_acquire(&local);
+		explorer_thread(names[thread], run_text, &texts[thread]);
+	}
+}
+
+static void finish(void)
+{
+	for (unsigned at = 0; at < ROWS_SEEN; at++)
+		explorer_outcome("%s,", seen[at]);
+	for (const struct made *it = &all_made[sizeof(all_made) / sizeof(all_made[0])]; it-- > all_made;)
+		if ((needs & it->need) != 0)
+			it->end();
+	explorer_outcome("%u %u", words[0], words[1]);
+}
+
+/* ---- Random programs. ---- */
+
+static uint64_t seed;
+
+static unsigned pick(unsigned below)
+{
+	seed = seed * 6364136223846793005u + 1442695040888963407u;
+	return (unsigned)(seed >> 33) % below;
+}
+
+static void add(struct text *text, const struct thing *thing)
+{
+	text->of[text->length++] = thing;
+	needs |= thing->needs;
+}
+
+static void add_simple(struct text *text, unsigned most)
+{
+	for (unsigned left = pick(most + 1); left > 0; left--)
+		add(text, &simple[pick(sizeof(simple) / sizeof(simple[0]))]);
+}
+
+static void make_program(uint64_t of)
+{
+	seed = of * 2654435761u + 7;
+	threads = 2 + pick(4) / 3;
+	needs = 0;
+	ticks = 1 + pick(4) / 3;
+	bool shared = pick(2) == 0;
+	for (unsigned thread = 0; thread < threads; thread++) {
+		struct text *text = &texts[thread];
+		*text = (struct text){.cpu = shared ? (int)pick(2) - 1 : (int)pick(4) - 2};
+		add_simple(text, 2);
+		add(text, &things_to_do[pick(sizeof(things_to_do) / sizeof(things_to_do[0]))]);
+		add_simple(text, 2);
+	}
+}
+
+/* Whether the program may have few enough orders: steps of the next thread are put between those of the others. */
+static bool is_short(double most)
+{
+	double orders = 1;
+	unsigned points = 0;
+	for (unsigned thread = 0; thread < threads; thread++) {
+		unsigned all = 1;
+		for (unsigned at = 0; at < texts[thread].length; at++)
+			all += texts[thread].of[at]->points;
+		for (unsigned own = 1; own <= all; own++)
+			orders = orders * ++points / own;
+	}
+	return orders < most;
+}
+
+static void show_program(uint64_t of)
+{
+	printf("program %llu, ticks %u\n", (unsigned long long)of, ticks);
+	for (unsigned thread = 0; thread < threads; thread++) {
+		printf("  CPU %d", texts[thread].cpu);
+		for (unsigned at = 0; at < texts[thread].length; at++)
+			printf("; %s", texts[thread].of[at]->name);
+		printf("\n");
+	}
+}
+
+enum { SCHEDULES = 1200 };
+
+static unsigned compared, in_part, faulty, wrong;
+static uint64_t wholes, reduceds;
+
+static void compare(uint64_t of, bool shows)
+{
+	const struct pair pair = {search_for(begin, finish, SCHEDULES, ticks, true), search_for(begin, finish, SCHEDULES, ticks, false)};
+	bool agree = do_agree(&pair);
+	*(are_through(&pair) ? &compared : &in_part) += 1;
+	wholes += pair.whole.schedules;
+	reduceds += pair.reduced.schedules + pair.reduced.cut;
+	wrong += !agree;
+	for (unsigned at = 0; at < pair.whole.outcomes; at++)
+		if (strchr(pair.whole.outcome[at].text, ':') != NULL) {
+			faulty++;
+			break;
+		}
+	if (agree && !shows)
+		return;
+	show_program(of);
+	show_found("whole", &pair.whole);
+	show_found("reduced", &pair.reduced);
+}
+
+static time_t now(void)
+{
+	struct timespec time;
+	clock_gettime(CLOCK_MONOTONIC, &time);
+	return time.tv_sec;
+}
+
+int main(int words_given, char **given)
+{
+	bool one = words_given == 3 && strcmp(given[1], "seed") == 0, counts = words_given == 4 && strcmp(given[1], "count") == 0;
+	uint64_t first = one || counts ? strtoull(given[words_given - 1], NULL, 10) : words_given > 2 ? strtoull(given[2], NULL, 10) : 1;
+	time_t end = now() + (one || counts || words_given < 2 ? 0 : (time_t)atoi(given[1]));
+	unsigned most = counts ? (unsigned)atoi(given[2]) : 0;
+	if (one) {
+		make_program(first);
+		compare(first, true);
+		return wrong != 0;
+	}
+	for (; counts ? compared < most : now() < end; first++) {
+		make_program(first);
+		if (is_short(1.5 * SCHEDULES))
+			compare(first, false);
+	}
+	printf("%u programs come to the same by %llu schedules as by %llu, %u of them to a fault; of %u more a part was compared; %u are different; next seed %llu\n",
+	    compared, (unsigned long long)reduceds, (unsigned long long)wholes, faulty, in_part, wrong, (unsigned long long)first);
+	return wrong != 0;
+}

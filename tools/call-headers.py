@@ -1,0 +1,267 @@
+#!/usr/bin/env -S python3 -B
+"""Makes what is of each call of kupaldiz.h and kupaldiz_waiting.h, from these headers.
+
+    tools/call-headers.py make      writes c/include/kupaldiz_check.h and kupaldiz_tsan.h, from the
+                                    frames beside them that end in .in, and c/src/texts.h and
+                                    checked.h
+
+Git keeps none of these. Each make makes them first, and so does a build of the archive. A line
+'@PART HEADER' of a frame stands for a part that is made of the header's calls:
+
+    @declarations   each call of the checking build, with the place that it is made at
+    @macros         what the program's call becomes there
+    @names          what the call is called within the checking build
+    @edges          what a call that orders memory tells the thread sanitizer
+
+texts.h has what the header says of each result. checked.h has what is looked at before a call, by
+its parameters. c/src/check.c has the functions that look, and the few calls that are written by
+hand.
+"""
+import functools
+import importlib
+import os
+import re
+import sys
+import textwrap
+
+from parts import ROOT
+
+pages = importlib.import_module("header-pages")
+
+HEADERS = {"kupaldiz.h": "crates/registry_c/include/kupaldiz.h",
+           "kupaldiz_waiting.h": "c/include/kupaldiz_waiting.h"}
+HANDLE = re.compile(r"struct kupaldiz_(keeper|cpu|passive|local) \*")
+LOCAL = re.compile(r"\blocal\b")
+ACQUIRED = re.compile(r"^struct kupaldiz_(?:passive|local) \*(\w+)$")
+NAME, ENTRY = "const struct kupaldiz_name *", "struct kupaldiz_entry *"
+# The frame declares it: it compares the limits first.
+OPEN = "kupaldiz_open"
+BY_HAND = (OPEN, *(f"kupaldiz_{it}" for it in ("close", "copy", "release", "copy_local")))
+# What orders memory. Before a call what was written is shown, or is let go of. After one that is
+# done what was shown is seen, or nobody uses it any more.
+BEFORE = {
+    "KUPALDIZ_SHOWN": "attach attach_iface replace replace_iface",
+    "KUPALDIZ_LET_GO": "exit release try_release_local release_local_locked forget_local "
+                       "release_local close",
+}
+AFTER = {
+    "KUPALDIZ_SHOWN": "look_up get find enter_find walk acquire get_local acquire_local",
+    "KUPALDIZ_LET_GO": "destroy destroy_wait perform_turn perform_wait close",
+}
+# What is looked at before a call of kupaldiz_waiting.h: the functions are check.c's.
+TAKES = "judge_interlock(interlock);", "judge_may_wait(interlock);"
+LIST_TAKES = "judge_interlock(deferred->interlock);", "judge_may_wait(deferred->interlock);"
+LOOKED_AT = {
+    "interlock_of_mutex": ["learn(&outer, keeper, mutex, false);"],
+    "release_local": TAKES[:1],
+    "destroy_wait": [*TAKES, "judge_own(interlock, number);"],
+    "perform_wait": TAKES,
+    **{f"deferred_{it}": ["judge_locked(deferred->interlock);"]
+       for it in ("count", "add", "call", "free")},
+    "deferred_barrier": LIST_TAKES,
+    "reclaimer_start": LIST_TAKES[:1],
+    "reclaimer_stop": LIST_TAKES[:1],
+    "pool_give": ["judge_empty(kupaldiz_pool_cpu(pool));"],
+}
+
+
+def source(header):
+    return (ROOT / HEADERS[header]).read_text()
+
+
+@functools.cache
+def bare(header):
+    """The header without its comments."""
+    return re.sub(r"/\*.*?\*/", "", source(header), flags=re.S)
+
+
+@functools.cache
+def calls_of(header):
+    """The calls of a header that are checked: of kupaldiz.h those that take a handle."""
+    is_all = header != "kupaldiz.h"
+    return [it for it in pages.calls_in(source(header))
+            if is_all or any(HANDLE.search(parameter) for parameter in it.parameters)]
+
+
+def short(call):
+    return call.name.removeprefix("kupaldiz_")
+
+
+def declaration(call, header):
+    """The call's declaration, with its attributes."""
+    return re.search(rf"\b{call.name}\([^;{{]*;", bare(header))[0]
+
+
+def needs_look(call, header):
+    """' KUPALDIZ_MUST_USE' if the call's result must be used."""
+    return " KUPALDIZ_MUST_USE" * ("KUPALDIZ_MUST_USE" in declaration(call, header))
+
+
+def needed(call, header):
+    """The parameters that are never NULL."""
+    places = re.search(r"KUPALDIZ_NONNULL\(([^)]*)\)", declaration(call, header))
+    return {call.parameters[int(it) - 1] for it in places[1].split(",")} if places else set()
+
+
+def wrapped(text, width=100, joint="\n"):
+    """The text in lines; a parameter stays whole."""
+    whole = re.sub(r"\w[\w *]*(?=[,)])", lambda it: it[0].replace(" ", "~"), text)
+    lines = textwrap.wrap(whole, width, subsequent_indent="    ", break_on_hyphens=False)
+    return joint.join(lines).replace("~", " ")
+
+
+def given(call):
+    return ", ".join(re.search(r"(\w+)$", it)[1] for it in call.parameters)
+
+
+def head(call, prefix, *more):
+    space = "" if call.result.endswith("*") else " "
+    parameters = ", ".join([*call.parameters, *more])
+    return f"{call.result}{space}kupaldiz_{prefix}_{short(call)}({parameters})"
+
+
+def function(start, lines):
+    return "\n".join([start, "{", *(f"\t{it}" for it in lines), "}"])
+
+
+def declared(call, header):
+    if call.name == OPEN:
+        return ""
+    return wrapped(head(call, "checked", "KUPALDIZ_FROM") + needs_look(call, header) + ";")
+
+
+def macro(call, header):
+    if call.name == OPEN:
+        return ""
+    becomes = f"kupaldiz_checked_{short(call)}({given(call)}, KUPALDIZ_AT)"
+    return f"#define {call.name}({given(call)}) \\\n\t" + wrapped(becomes, 84, " \\\n\t")
+
+
+def renamed(call, header):
+    return f"#define {call.name}\tkupaldiz_inner_{short(call)}"
+
+
+def edges(of, call, line):
+    """The line for each edge that has the call."""
+    return [line.format(edge) for edge, names in of.items() if short(call) in names.split()]
+
+
+def ordered(call, header):
+    """The call under the thread sanitizer, if it orders memory."""
+    before = edges(BEFORE, call, "__tsan_release({});")
+    after = edges(AFTER, call, "if (result == KUPALDIZ_DONE)\n\t\t__tsan_acquire({});")
+    if not before + after:
+        return ""
+    start = wrapped(f"static inline{needs_look(call, header)} {head(call, 'tsan')}")
+    called = f"enum kupaldiz_result result = {call.name}({given(call)});"
+    lines = [*before, wrapped(called, 92, "\n\t"), *after, "return result;"]
+    becomes = f"kupaldiz_tsan_{short(call)}({given(call)})"
+    return f"{function(start, lines)}\n#define {call.name}({given(call)}) \\\n\t{becomes}"
+
+
+def acquired(call):
+    """The parameter of the reference that the call acquires, or ''."""
+    last = ACQUIRED.search(call.parameters[-1])
+    return last[1] if last and re.match("get|acquire", short(call)) else ""
+
+
+def handles_looked_at(call, header):
+    for it in call.parameters:
+        if "kupaldiz_keeper *" in it:
+            yield "use_locked(keeper);"
+        if it.endswith("*cpus"):
+            yield "use_all(cpus, count);"
+        elif "kupaldiz_cpu *" in it:
+            is_needed = it in needed(call, header)
+            yield "use(CPU, cpu);" if is_needed else "if (cpu != NULL)\n\t\tuse(CPU, cpu);"
+
+
+def looked_at(call, header):
+    """What is looked at before a call of kupaldiz.h. What it acquires has the entry it writes."""
+    yield from handles_looked_at(call, header)
+    taken = acquired(call)
+    if taken:
+        yield f"judge_pointer({'LOCAL' if taken == 'local' else 'PASSIVE'}, {taken});"
+    names = [it.removeprefix(NAME) for it in call.parameters if it.startswith(NAME)]
+    entries = [it.removeprefix(ENTRY) for it in call.parameters if it.startswith(ENTRY)]
+    entries += [f"&{taken}->entry"] * bool(taken)
+    yield from (f"judge_apart({name}, {entry});" for name in names for entry in entries)
+
+
+def ended(call):
+    """The call, and what is done after it."""
+    if acquired(call) == "local":
+        return f"acquired_local({call.name}({given(call)}), local)"
+    if acquired(call):
+        return f"acquired({call.name}({given(call)}), reference)"
+    return f"end({call.name}({LOCAL.sub('use_local(local)', given(call))}))"
+
+
+def checked(call, header):
+    """The function of the checking build, unless it is written by hand."""
+    if call.name in BY_HAND:
+        return ""
+    if header == "kupaldiz.h":
+        lines = [f'begin("{call.name}", file, line);', *looked_at(call, header),
+                 f"return {ended(call)};"]
+    else:
+        lines = [f'note_outer("{call.name}", file, line);', *LOOKED_AT.get(short(call), ()),
+                 f"return {call.name}({given(call)});"]
+    return function(wrapped(head(call, "checked", "KUPALDIZ_FROM")), lines)
+
+
+PARTS = {"declarations": declared, "macros": macro, "names": renamed, "edges": ordered,
+         "functions": checked}
+
+
+def part(name, header):
+    if name not in PARTS or header not in HEADERS:
+        sys.exit(f"call-headers: '@{name} {header}' of a frame names nothing")
+    texts = (PARTS[name](call, header) for call in calls_of(header))
+    return "".join(f"{text}\n" for text in texts if text)
+
+
+def framed(path):
+    """A header that has a frame beside it."""
+    frame = (ROOT / f"{path}.in").read_text()
+    return re.sub(r"^@(\w+) (\S+)\n", lambda it: part(it[1], it[2]), frame, flags=re.M)
+
+
+def texts(_):
+    """What the comments say of each result, without the point."""
+    body = pages.only(r"^enum kupaldiz_result \{\n(.*?)^\};", source("kupaldiz.h"))[1]
+    results = [(it.split(" = ")[0], said.rstrip(".")) for it, said in pages.members(body)]
+    return "".join(f'\t[{name}] = "{said}",\n' for name, said in results)
+
+
+def functions(_):
+    return "\n".join(part("functions", header) for header in HEADERS)
+
+
+MADE = {"c/include/kupaldiz_check.h": framed, "c/include/kupaldiz_tsan.h": framed,
+        "c/src/texts.h": texts, "c/src/checked.h": functions}
+
+
+def write(path):
+    """Writes a file that isn't so already, in one step: another process may read it."""
+    text = f"/* Made by tools/call-headers.py: don't edit it. */\n{MADE[path](path)}"
+    file = ROOT / path
+    if not file.exists() or file.read_text() != text:
+        new = file.with_suffix(f".{os.getpid()}")
+        new.write_text(text)
+        os.replace(new, file)
+
+
+def main(words):
+    if words != ["make"]:
+        print("usage: call-headers.py make", file=sys.stderr)
+        return 2
+    for path in MADE:
+        write(path)
+    # packaging/places.mk sees by the last one whether all are new.
+    os.utime(ROOT / path)
+    return 0
+
+
+if __name__ == "__main__":
+    sys.exit(main(sys.argv[1:]))

@@ -1,0 +1,117 @@
+"""Compares the numbers of docs/facts with the sources, and with each place that says them.
+
+tools/check-docs.py runs this. A form below the dashes of docs/facts is found with any numbers in
+place of the names in braces. Blanks, line ends and marks of Markdown don't count.
+"""
+import re
+import subprocess
+
+from parts import ROOT
+
+FACTS = ROOT / "docs/facts"
+HEADER = "crates/registry_c/include/kupaldiz.h"
+RUN = "bench/runs/2026-11-29-boxed.txt"
+LIMITS = "crates/registry_c/include/kupaldiz_limits.h"
+WORDS = "zero one two three four five six seven eight nine ten eleven twelve".split()
+NUMBER = rf"(\d+\w*|{'|'.join(WORDS)})"
+NAME = re.compile(r"\{(\w+)\}")
+# What is no word of a sentence: the target of a link, and marks.
+MARKS = re.compile(r"\]\([^)]*\)|[\[\]`*]")
+
+
+def text_of(path):
+    return (ROOT / path).read_text(encoding="utf-8", errors="replace")
+
+
+def limit(name):
+    """A limit of the header, or the power of two that it is."""
+    return re.search(rf"^#define {name}\s+(?:\(UINT64_C\(1\) << )?(\d+)", text_of(LIMITS), re.M)[1]
+
+
+def exports():
+    sources = (ROOT / "crates/registry_c/src").glob("*.rt")
+    return str(sum(text_of(it).count("no_mangle") for it in sources))
+
+
+def calls():
+    command = ["packaging/calls-of.sh", HEADER]
+    return str(len(subprocess.run(command, cwd=ROOT, check=True, stdout=subprocess.PIPE).stdout.split()))
+
+
+def lookup(contender, operation="lookup"):
+    """The nanoseconds of an operation of that run, on one thread among eight entries."""
+    table = text_of(RUN).partition(f"\n{operation}, ns")[2].partition("\n\n")[0]
+    return str(round(float(re.search(rf"^{contender} +\S+ +(\S+)", table, re.M)[1])))
+
+
+def events():
+    body = text_of("crates/protocol/src/event.rt").partition("pub enum Event {")[2].partition("\n}")[0]
+    return str(len(re.findall(r"^    [A-Z]\w*\(", body, re.M)))
+
+
+# What the sources say of some of them.
+SOURCES = {
+    "proved": exports,
+    "calls": calls,
+    "in_c": lambda: str(int(calls()) - int(exports())),
+    "slots": lambda: limit("KUPALDIZ_MOST_SLOTS"),
+    "cpus": lambda: limit("KUPALDIZ_MOST_CPUS"),
+    "changes": lambda: limit("KUPALDIZ_MOST_CHANGES"),
+    "sections": lambda: limit("KUPALDIZ_MOST_SECTIONS"),
+    "nested": lambda: limit("KUPALDIZ_MOST_DEPTH"),
+    "events": events,
+    "from_c": lambda: lookup("from-C"),
+    "from_rust": lambda: lookup("from-Rust"),
+    "urcu": lambda: lookup("urcu-memb"),
+    "crossbeam": lambda: lookup("crossbeam-epoch"),
+    "arc_swap": lambda: lookup("arc-swap"),
+    "copy": lambda: lookup("from-C", "look_up"),
+}
+
+
+def read():
+    """The facts by their names, and the forms."""
+    lines = [it for it in FACTS.read_text().splitlines() if it and not it.startswith("#")]
+    middle = lines.index("----")
+    return dict(it.split(" = ") for it in lines[:middle]), lines[middle + 1:]
+
+
+def plain(text):
+    return re.sub(r"\s+", " ", MARKS.sub("", text))
+
+
+def pattern(form):
+    """What finds a form: each of its names is a group."""
+    pieces = enumerate(NAME.split(plain(form)))
+    return re.compile("".join(NUMBER if place % 2 else re.escape(it) for place, it in pieces), re.I)
+
+
+def value(number):
+    """A number as the file has it."""
+    return str(WORDS.index(number.lower())) if number.lower() in WORDS else number
+
+
+def wrong_places(path, facts, forms):
+    """Each place of a page that says another number, and the forms that the page has."""
+    text = plain(path.read_text(encoding="utf-8", errors="replace"))
+    for form in forms:
+        names = NAME.findall(form)
+        for found in pattern(form).finditer(text):
+            is_right = [facts[name] for name in names] == [value(it) for it in found.groups()]
+            wanted = ", ".join(f"{name} = {facts[name]}" for name in names)
+            yield form, "" if is_right else f"'{found[0]}', and docs/facts has {wanted}"
+
+
+def compared(pages):
+    """What is wrong with the file of facts, and with each page: where, and what."""
+    facts, forms = read()
+    for name, source in SOURCES.items():
+        told, said = facts.get(name), source()
+        yield FACTS, "" if told == said else f"{name} = {told}, and the sources have {said}"
+    met = set()
+    for path in pages:
+        found = list(wrong_places(path, facts, forms))
+        met.update(form for form, _ in found)
+        yield path, "; ".join(fault for _, fault in found if fault)
+    unused = [form for form in forms if form not in met]
+    yield FACTS, f"no page says: {'; '.join(unused)}" if unused else ""
