@@ -67,8 +67,10 @@ struct contender {
     operations *look_ups;
     operations *misses;
     operations *gets;
-    /* Replaces the newest entry: takes it out of the list, waits until nobody can have it, and puts it in again. */
+    /* Replaces the newest entry with a gap: takes it out of the list, waits until nobody can have it, and puts it in again. */
     void (*replace)(void);
+    /* Replaces it without a gap: puts a new one in its place, and waits until nobody can have the old one. */
+    void (*exchange)(void);
     /* Waits until all open sections have ended. */
     void (*perform)(void);
 };
@@ -91,11 +93,11 @@ extern const struct contender xenium_epoch;
 /* Makes what the words ask for, and prints its nanoseconds on one line. Wrong words or a wrong result end the program.
 
        THREADS ENTRIES OPERATIONS                    each operation of the contender
-       wait CPUS READERS ENTRIES COUNT               a replacement and a wait
+       wait CPUS READERS ENTRIES COUNT               a replacement with and without a gap, and a wait
        spread CPUS READERS ENTRIES COUNT             percentiles of single lookups and replacements */
 void run_contender(const struct contender *contender, int count, char **words);
 
-/* Prints what a replacement and a wait take, while so many readers enter and leave in threads of their own; the rest of the plan's threads, except
+/* Prints what a replacement takes, with and without a gap, and a wait, while so many readers enter and leave in threads of their own; the rest of the plan's threads, except
    this one, sleep. */
 void print_waits(const struct contender *contender, const struct plan *plan, unsigned readers);
 

@@ -7,7 +7,9 @@ struct key keys[MOST_ENTRIES];
 unsigned entries;
 _Atomic(struct node *) newest;
 
-static struct node nodes[MOST_ENTRIES];
+/* A node for each entry, and one more: `standing` is the newest entry's, and `spare` the one that it has next. */
+static struct node nodes[MOST_ENTRIES + 1];
+static struct node *standing, *spare;
 static pthread_mutex_t changes = PTHREAD_MUTEX_INITIALIZER;
 
 static uint64_t high_word(unsigned i)
@@ -28,13 +30,14 @@ void make_keys(const struct plan *plan)
         keys[i] = (struct key){ .kind = DRIVER, .high = high_word(i), .low = 0 };
 }
 
-static void link_node(unsigned i)
+/* Makes a node that of the entry i, and links it first on the list, before `next`. */
+static void link_node(struct node *node, unsigned i, struct node *next)
 {
-    nodes[i].number = i + 1;
-    nodes[i].key = keys[i];
-    nodes[i].value = i;
-    atomic_store(&nodes[i].next, atomic_load(&newest));
-    atomic_store(&newest, &nodes[i]);
+    node->number = i + 1;
+    node->key = keys[i];
+    node->value = i;
+    atomic_store(&node->next, next);
+    atomic_store(&newest, node);
 }
 
 void make_list(const struct plan *plan)
@@ -42,20 +45,33 @@ void make_list(const struct plan *plan)
     make_keys(plan);
     atomic_store(&newest, NULL);
     for (unsigned i = 0; i < entries; i++)
-        link_node(i);
+        link_node(&nodes[i], i, atomic_load(&newest));
+    standing = &nodes[entries - 1];
+    spare = &nodes[entries];
 }
 
 void unlink_newest(void)
 {
     pthread_mutex_lock(&changes);
-    atomic_store(&newest, atomic_load(&nodes[entries - 1].next));
+    atomic_store(&newest, atomic_load(&standing->next));
     pthread_mutex_unlock(&changes);
 }
 
 void link_newest(void)
 {
     pthread_mutex_lock(&changes);
-    link_node(entries - 1);
+    link_node(standing, entries - 1, atomic_load(&newest));
+    pthread_mutex_unlock(&changes);
+}
+
+void exchange_newest(void)
+{
+    struct node *old = standing;
+
+    pthread_mutex_lock(&changes);
+    link_node(spare, entries - 1, atomic_load(&old->next));
+    standing = spare;
+    spare = old;
     pthread_mutex_unlock(&changes);
 }
 

@@ -23,9 +23,11 @@ extern _Atomic(struct node *) newest;
 /* Makes the keys and the list, the newest entry first. The value of entry i, from 0, is i. */
 void make_list(const struct plan *plan);
 
-/* Takes the newest entry of the list out of it, or puts it in anew, each under a lock that changes share. */
+/* Takes the newest entry of the list out of it, puts it in anew, or puts a new one in its place by one store, each under a lock that changes share.
+   The node that was replaced is taken for the next new entry. */
 void unlink_newest(void);
 void link_newest(void);
+void exchange_newest(void);
 
 INLINE int is_key(const struct key *key, uint64_t kind, uint64_t high, uint64_t low)
 {
@@ -137,7 +139,7 @@ INLINE uint64_t in_batches(unsigned thread, uint64_t count, void (*enter)(unsign
 
 /* What a contender has of these, and of what LISTED_CHANGES makes. */
 #define LOOKUPS_OF(NAME) .lookups = NAME##_lookups, .batches = NAME##_batches, .walks = NAME##_walks
-#define CHANGES_OF(NAME) .replace = NAME##_replace, .perform = NAME##_perform
+#define CHANGES_OF(NAME) .replace = NAME##_replace, .exchange = NAME##_exchange, .perform = NAME##_perform
 #define NOTHING_AROUND .begin = do_nothing, .end = do_nothing, .rest = do_nothing
 
 /* Lookups in the list, between the statements ENTER and LEAVE, which may speak of `thread`: the same functions. */
@@ -164,7 +166,8 @@ INLINE uint64_t in_batches(unsigned thread, uint64_t count, void (*enter)(unsign
     } \
     LOOKUPS(NAME)
 
-/* Changes of the list: the function NAME_perform waits by the statement WAIT until all open sections have ended, NAME_replace in between. */
+/* Changes of the list: NAME_perform waits by the statement WAIT until all open sections have ended, NAME_replace in between, and NAME_exchange
+   behind its store. */
 #define LISTED_CHANGES(NAME, WAIT) \
     static void NAME##_perform(void) \
     { \
@@ -175,6 +178,11 @@ INLINE uint64_t in_batches(unsigned thread, uint64_t count, void (*enter)(unsign
         unlink_newest(); \
         NAME##_perform(); \
         link_newest(); \
+    } \
+    static void NAME##_exchange(void) \
+    { \
+        exchange_newest(); \
+        NAME##_perform(); \
     }
 
 #endif

@@ -36,6 +36,11 @@ get from-Rust/from-C 1.15""".splitlines()] + [[it, "from-C/before", "1.05"] for 
 # Each thread of these contenders writes its own cache lines alone. (Those of hand-packed share theirs on purpose.)
 QUIET = ("hand-padded", "hand-pointed", "hand-kept")
 NOISY = 1.3
+WAITS = {
+    "replace": "replacement with a gap: detach, destroy, attach",
+    "exchange": "replacement without a gap: replace, destroy",
+    "perform": "wait until all open sections have ended",
+}
 PERCENTILES = "clock read_p50 read_p99 read_p999 replace_p50 replace_p99 replace_p999".split()
 LABELS = {
     "from-C": "here, C", "from-Rust": "here, Rust",
@@ -153,7 +158,7 @@ class Waits:
             print(f"* more busy threads than the {self.processors} processors: most of such a time is the scheduler's")
 
     def tables(self):
-        for what, title in (("replace", "replacement of an entry: detach, destroy, attach"), ("perform", "wait until all open sections have ended")):
+        for what, title in WAITS.items():
             for busy in (False, True):
                 self.table(title, busy, what)
 
@@ -241,9 +246,11 @@ def main(processors, file=None, title=""):
     run, spread = spread_of(best)
     if "changes" in best:
         return print_changes(best["changes"])
-    operations = Operations(best)
-    operations.tables()
-    operations.aims()
+    operations = None
+    if any(it[0] == "threads" for it in best):
+        operations = Operations(best)
+        operations.tables()
+        operations.aims()
     if any(it[0] == "cpus" for it in best):
         Waits(best, int(processors)).tables()
     if spread:

@@ -14,7 +14,7 @@
 
 #include "client.h"
 
-enum { LEAST_CPUS = 2, LEAST_SLOTS = 2, USUAL_SLOTS = 32, MOST_ROUNDS = 20000 };
+enum { LEAST_CPUS = 2, LEAST_SLOTS = 3, USUAL_SLOTS = 32, MOST_ROUNDS = 20000 };
 
 static pthread_mutex_t interlock = PTHREAD_MUTEX_INITIALIZER;
 static struct kupaldiz_keeper keeper;
@@ -115,6 +115,22 @@ static struct replaced replace_all(unsigned count)
 		replaced.freed += now() - detached;
 	}
 	return replaced;
+}
+
+/* Replaces an entry in its place and frees the old one, so many times. The nanoseconds of it all. */
+static double exchange_all(unsigned count)
+{
+	attach(&changing[0], 0);
+	double began = now();
+	for (unsigned made = 0; made < count; made++) {
+		struct kupaldiz_entry gone;
+		DONE_UNDER(&interlock,
+		    kupaldiz_replace(&keeper, &cpus[0], &changing[0], made, &gone, NULL));
+		turn(gone.number, KUPALDIZ_FREED);
+	}
+	double took = now() - began;
+	turn(detach(&changing[0]), KUPALDIZ_FREED);
+	return took;
 }
 
 /* The nanoseconds that so many turns take. Each of them meets this. */
@@ -227,9 +243,11 @@ static void run(unsigned count, bool is_sized)
 	double grace, local, many = (double)count * changing_count;
 	open_registry();
 	const struct replaced replaced = replace_all(count);
+	const double exchanged = exchange_all(count);
 	meet_all(count, &grace, &local);
 	printf("changes %u attach %.1f detach %.1f freed %.1f", count, replaced.attach / many,
 	    replaced.detach / many, replaced.freed / many);
+	printf(" exchange %.1f", exchanged / count);
 	printf(" grace %.1f local %.1f perform %.1f", grace / count, local / count,
 	    perform_all(count) / count);
 	printf(" audit %.1f", audit_all(count) / count);

@@ -1,9 +1,8 @@
 /*
  * speed THREADS ENTRIES OPERATIONS - what a lookup, a walk and a pair of acquire and release take,
  *     through kupaldiz.h
- * speed wait CPUS READERS ENTRIES COUNT - what a replacement and a perform take beside readers,
- * each
- *     call made by turns that wait
+ * speed wait CPUS READERS ENTRIES COUNT - what a replacement takes beside readers, with and without
+ *     a gap, and a perform, each call made by turns that wait
  * speed spread CPUS READERS ENTRIES COUNT - the percentiles of single lookups and replacements
  *
  * `lookup` makes three calls, `read` is the same in two (enter with find, and exit), `look_up` in
@@ -160,7 +159,7 @@ static uint64_t walks(unsigned thread, uint64_t count)
 	return right;
 }
 
-/* The newest entry is detached, destroyed and attached again. */
+/* The newest entry is detached, destroyed and attached again: a lookup in between finds nothing. */
 static void replace(void)
 {
 	const struct kupaldiz_name *name = &names[entries - 1];
@@ -168,6 +167,15 @@ static void replace(void)
 	DONE_UNDER(&lock, kupaldiz_detach(&keeper, changer, KUPALDIZ_ENTRY, name, &gone));
 	DONE(kupaldiz_destroy_wait(&interlock, changer, gone.number, NULL, NULL));
 	DONE_UNDER(&lock, kupaldiz_attach(&keeper, changer, name, entries - 1, NULL));
+}
+
+/* A new entry takes the newest one's place, which is destroyed then. */
+static void exchange(void)
+{
+	const struct kupaldiz_name *name = &names[entries - 1];
+	struct kupaldiz_entry gone;
+	DONE_UNDER(&lock, kupaldiz_replace(&keeper, changer, name, entries - 1, &gone, NULL));
+	DONE(kupaldiz_destroy_wait(&interlock, changer, gone.number, NULL, NULL));
 }
 
 static void perform(void)
@@ -223,6 +231,7 @@ static const struct contender FACE = {
 	.misses = misses,
 	.gets = gets,
 	.replace = replace,
+	.exchange = exchange,
 	.perform = perform,
 };
 

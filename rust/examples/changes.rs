@@ -70,6 +70,18 @@ fn replace_all(
     Ok(took)
 }
 
+/// Replaces an entry in its place and frees the old one, so many times. The nanoseconds of it all.
+fn exchange_all(cpu: &Cpu<u64>, name: &Name, count: u32) -> Result<f64, RegistryError> {
+    cpu.attach(name, 0)?;
+    let took = time(count, || {
+        let (_, retired) = cpu.replace(name, 0)?;
+        retired.try_destroy()?;
+        Ok(())
+    })?;
+    cpu.detach(name)?.try_destroy()?;
+    Ok(took)
+}
+
 /// The nanoseconds of so many turns on an entry that a section of the other CPU holds, and of as
 /// many while a local reference does.
 fn meet_all(
@@ -105,6 +117,7 @@ fn run(count: u32) -> Result<(), Box<dyn Error>> {
     let (staying, changing) = names.split_at(STAYING);
     attach_each(&registry, &cpus[0], staying)?;
     let [attach, detach, freed] = replace_all(&registry, &cpus[0], changing, count)?;
+    let exchange = exchange_all(&cpus[0], &changing[0], count)?;
     let (grace, local) = meet_all(&registry, &cpus, &changing[0], count)?;
     let perform = time(count, || Ok(cpus[0].synchronize(Patience::Turns(1))?))?;
     let audit = time(count, || {
@@ -118,6 +131,7 @@ fn run(count: u32) -> Result<(), Box<dyn Error>> {
         detach / many,
         freed / many
     );
+    print!(" exchange {:.1}", exchange / each);
     print!(" grace {:.1} local {:.1}", grace / each, local / each);
     println!(" perform {:.1} audit {:.1}", perform / each, audit / each);
     Ok(())

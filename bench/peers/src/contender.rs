@@ -21,6 +21,9 @@ pub trait Contender: Sync {
     /// Takes the newest entry out of the list, waits until nobody can have it, and puts it in again.
     fn replace(&self);
 
+    /// Puts a new entry in the newest one's place, and waits until nobody can have the old one.
+    fn exchange(&self);
+
     /// Waits until all open sections have ended, where there is such a call.
     fn perform(&self) -> Option<()>;
 }

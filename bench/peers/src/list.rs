@@ -60,6 +60,18 @@ impl List {
         }
     }
 
+    /// The list with a new entry in the newest one's place; the others are shared.
+    pub fn renewed(&self) -> List {
+        let newest = self.newest.as_ref().map(|node| {
+            Arc::new(Node {
+                next: node.next.clone(),
+                key: node.key,
+                value: node.value,
+            })
+        });
+        List { newest }
+    }
+
     /// The value of the entry with that key.
     #[inline(always)]
     pub fn value(&self, key: &Key) -> Option<u64> {

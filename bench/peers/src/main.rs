@@ -87,13 +87,14 @@ fn operations<C: Contender>(contender: &C, threads: usize, entries: usize, count
 
 fn waits<C: Contender>(contender: &C, threads: [usize; 2], entries: usize, count: u64) -> Option<String> {
     let keys = keys(entries);
-    let replace = nanoseconds_waited(contender, C::replace, &keys, threads, count)?;
-    let mut line = format!(" replace {replace:.1}");
+    let replace = nanoseconds_waited(contender, (C::replace, 1), &keys, threads, count)?;
+    let exchange = nanoseconds_waited(contender, (C::exchange, 0), &keys, threads, count)?;
+    let mut line = format!(" replace {replace:.1} exchange {exchange:.1}");
     if contender.perform().is_some() {
         let perform = |contender: &C| {
             contender.perform();
         };
-        let perform = nanoseconds_waited(contender, perform, &keys, threads, count)?;
+        let perform = nanoseconds_waited(contender, (perform, 0), &keys, threads, count)?;
         line += &format!(" perform {perform:.1}");
     }
     Some(line)

@@ -49,10 +49,10 @@ pub fn nanoseconds_each<C: Contender>(
 }
 
 /// Makes the change so many times while so many readers look the keys up in turn; the other threads, except this one, sleep. It
-/// answers the nanoseconds that one took, or `None` after a wrong answer: in each turn of a reader only the newest entry may be missing.
+/// answers the nanoseconds that one took, or `None` after a wrong answer: a reader that seeks each key once may miss so many of them.
 pub fn nanoseconds_waited<C: Contender>(
     contender: &C,
-    change: fn(&C),
+    (change, may_miss): (fn(&C), u64),
     keys: &[Key],
     [threads, readers]: [usize; 2],
     count: u64,
@@ -64,7 +64,7 @@ pub fn nanoseconds_waited<C: Contender>(
         drop(contender.enter());
         meet(&come, 0);
         if number < readers {
-            return read_until(contender, keys, &over);
+            return read_until(contender, keys, may_miss, &over);
         }
         drop(changing.lock());
         true
@@ -83,11 +83,11 @@ pub fn nanoseconds_waited<C: Contender>(
     })
 }
 
-/// Looks the keys up in turn until the changes are over. It returns whether all went well.
-fn read_until<C: Contender>(contender: &C, keys: &[Key], over: &AtomicBool) -> bool {
+/// Looks the keys up in turn until the changes are over. It returns whether no turn missed more of them than it may.
+fn read_until<C: Contender>(contender: &C, keys: &[Key], may_miss: u64, over: &AtomicBool) -> bool {
     let mut right = true;
     while !over.load(SeqCst) {
-        right &= lookups(contender, keys, keys.len() as u64) + 1 >= keys.len() as u64;
+        right &= lookups(contender, keys, keys.len() as u64) + may_miss >= keys.len() as u64;
     }
     right
 }

@@ -17,6 +17,17 @@ impl Swap {
     }
 }
 
+impl Swap {
+    /// Puts this list in the present one's place, and waits until nobody else holds that one, which it returns.
+    fn put(&self, list: List) -> Arc<List> {
+        let old = self.list.swap(Arc::new(list));
+        while Arc::strong_count(&old) > 1 {
+            std::thread::yield_now();
+        }
+        old
+    }
+}
+
 impl Contender for Swap {
     type Section<'a> = Guard<Arc<List>>;
 
@@ -31,12 +42,14 @@ impl Contender for Swap {
     }
 
     fn replace(&self) {
-        let shorter = Arc::new(self.list.load().shorter());
-        let whole = self.list.swap(shorter);
-        while Arc::strong_count(&whole) > 1 {
-            std::thread::yield_now();
-        }
+        let shorter = self.list.load().shorter();
+        let whole = self.put(shorter);
         self.list.store(whole);
+    }
+
+    fn exchange(&self) {
+        let renewed = self.list.load().renewed();
+        self.put(renewed);
     }
 
     /// It has no such call.

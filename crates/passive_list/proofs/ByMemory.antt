@@ -246,7 +246,7 @@ found_kept key h a b answer had outside longer =
     (λ none. (p.point, omega (arith, prefix_length h had.first.view.pass to_first, p.from_on), p.up_to, subst (IsLookup g p.point key) none p.answered)))
 
 -- in the open section
-kept_inside : (key : Key) (h : List Change) (a b : OnCpu) (answer : Option Entry) → HasFound key a b answer → IsPrefix h a.view.pass → FindsWhatIsKept key h b.view.pass answer
+pub kept_inside : (key : Key) (h : List Change) (a b : OnCpu) (answer : Option Entry) → HasFound key a b answer → IsPrefix h a.view.pass → FindsWhatIsKept key h b.view.pass answer
 kept_inside key h a b answer had longer =
     let g = b.view.pass in
     let p = had.lawful in

@@ -3,6 +3,7 @@
 ghost use Rattle.std.specs.Prelude.{◌≡◌, ◌≢◌, ◌<◌, None, IfSome};
 ghost use Rattle.cpu_words.specs.Common.{AreWordsOf, IsShownCpu, MaySeek, key_with};
 ghost use Rattle.passive_list.specs.Cpus.{IsKept};
+ghost use Rattle.passive_list.specs.Remembering.{FindsWhatIsKept};
 ghost use Rattle.passive_list.specs.Lookups.{HasFound, SearchesOnce, GoesOnByLoads, MayVisit, HasVisited, HasLookedUp, entry_seen};
 
 use crate::cpu::Cpu;
@@ -19,13 +20,15 @@ const ABOVE_ALL: u64 = MOST_CHANGES + 1;
 /// Condition: inside.
 ///
 /// - The result is the registry's at some point from what this CPU had seen at the call to what it has seen at the return.
+/// - It isn't `None` because of a replacement: a name that had an entry has one, unless an entry with that name was detached meanwhile.
 /// - It is one search, of loads alone: one, and five for each entry visited. It visits no more entries than there are slots. The last load
 ///   replies the result.
 #[inline(always)]
 pub fn find<D: Domain>(words: &Words, cpu: &mut Cpu<D>, kind: Kind, name: &Name) -> Option<Entry>
     requires words { AreWordsOf words.now D.table D.settings }
     requires inside { cpu.old.view.begin ≢ None }
-    ensures { HasFound (key_with kind name.now) cpu.old cpu.new result }
+    ensures found { HasFound (key_with kind name.now) cpu.old cpu.new result }
+    ensures kept { FindsWhatIsKept (key_with kind name.now) cpu.old.view.pass cpu.new.view.pass result }
 {
     find_on(words, &mut cpu.plain, kind, name)
 }
@@ -36,6 +39,7 @@ pub fn find_on(words: &Words, cpu: &mut PlainCpu, kind: Kind, name: &Name) -> Op
     requires words { AreWordsOf words.now cpu.old.words.table cpu.old.words.settings }
     requires inside { cpu.old.cpu.view.begin ≢ None }
     ensures found { HasFound (key_with kind name.now) cpu.old.cpu cpu.new.cpu result }
+    ensures kept { FindsWhatIsKept (key_with kind name.now) cpu.old.cpu.view.pass cpu.new.cpu.view.pass result }
     ensures words { cpu.new.words ≡ cpu.old.words }
 {
     let name = *name;
