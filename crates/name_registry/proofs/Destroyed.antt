@@ -308,4 +308,4 @@ closes_run z a b x last is known seen closed =
     let run = ended_runs z b.view b.log last closed in
     let grown : IsPrefix x.known_log b.log =
     (known.0 ++ hears_cpu x, sym (append_assoc x.known_log known.0 (hears_cpu x)) ∙ (ap (λ (l : List LogItem). l ++ hears_cpu x) known.1 ∙ ap (λ (k : OnKeeper). k.log) (sym is))) in
-    record { keeper = b; run = run; known = grown; seen = seen; gone = λ t n freed. run.gone t n (freed_more t n x.known_log b.log grown freed) }
+    record { keeper = b.view; log = b.log; run = run; known = grown; seen = seen; gone = λ t n freed. run.gone t n (freed_more t n x.known_log b.log grown freed) }

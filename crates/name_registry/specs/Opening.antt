@@ -5,11 +5,11 @@ use mathlib.Core.Option.{some}
 use lib.ListN.{get_elem?}
 use Rattle.atomic_table.specs.Seated.{TableId}
 use mathlib.Core.List.{IsPrefix}
-use Rattle.name_registry.specs.Types.{Settings, KeeperView}
+use Rattle.name_registry.specs.Types.{Settings, KeeperView, LogItem}
 use Rattle.registry_values.specs.Common.{are_fit}
 use Rattle.protocol.specs.Common.{opening, after}
 use Rattle.cpu_words.specs.Common.{Named, Seated, new_cpu, keeper_with, EndsRun, IsFreedFrom, IsGoneFrom}
-use Rattle.passive_list.specs.Common.{OnCpu, OnPlainCpu, no_memory, OnKeeper}
+use Rattle.passive_list.specs.Common.{OnCpu, OnPlainCpu, no_memory}
 
 -- the CPU c of a new table: outside, with nothing found and nothing held, and nothing was made
 abbrev pub new_on : Settings → ℕ → OnCpu
@@ -54,8 +54,9 @@ pub record AreNewCpus (z : Settings) (n : ℕ) (xs : List OnCpu) : Type 0 where
 
 -- a list of events leads from the opening to these words; it has what the CPU knows, and what was freed by that is gone
 pub record ClosesRun (z : Settings) (x : OnCpu) (last : List ℕ) : Type 0 where
-  pub keeper : OnKeeper
-  pub run : EndsRun z keeper.view keeper.log last
-  pub known : IsPrefix x.known_log keeper.log
-  pub seen : IsPrefix x.view.pass keeper.view.history
+  pub keeper : KeeperView
+  pub log : List LogItem
+  pub run : EndsRun z keeper log last
+  pub known : IsPrefix x.known_log log
+  pub seen : IsPrefix x.view.pass keeper.history
   pub gone : (t n : ℕ) → IsFreedFrom t n x.known_log → IsGoneFrom z (after (opening z) run.events) last n

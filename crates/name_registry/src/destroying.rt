@@ -19,7 +19,7 @@ impl<D: Domain> Registry<D> {
     /// interlock free between them. Returns the slot, from 0, that is vacant again.
     /// Condition: at least one turn.
     ///
-    /// - Ok (`gone`): nothing holds the entry, now or later, by the law `running_headline` (`freed`).
+    /// - Ok (`forever`): nothing holds the entry, now or later.
     /// - Each result (`answer`): the caller's CPU knows what the last turn met, at nine loads a turn; its pass grows as by `hear`.
     ///
     /// Refused, in this order:

@@ -18,7 +18,7 @@ impl<D: Domain> Registry<D> {
     /// interlock is free between the turns. The pass grows as by `hear`.
     /// Condition: at least one turn.
     ///
-    /// Ok (`waited`; 1 by the law `ended` of `running_headline`, 2 by `waiting`):
+    /// Ok (`ended` says 1, `waited` 3; 2 follows from `waited` by the law `waiting` of `running_headline`):
     ///
     /// 1. each section that was open as the call began has ended, on any CPU;
     /// 2. no section may hold an entry that was detached by then;
@@ -27,7 +27,7 @@ impl<D: Domain> Registry<D> {
     /// Refused, in this order:
     ///
     /// - `Inside`: the CPU is inside a section; nothing has changed then;
-    /// - `Waiting`, with the lowest-numbered CPU that wasn't seen out of its section; no mark has changed then.
+    /// - `Waiting`, with the lowest-numbered CPU that wasn't seen out of its section; its turns have set no mark.
     #[tactic(auto, using(crate::proofs::Attached::inside_is, crate::proofs::Passed::performs_inside, crate::proofs::Waited::learns_none))]
     pub fn perform<R: Wait>(&self, rt: &R, cpu: &mut Cpu<D>, turns: u32) -> Result<(), Refusal>
         requires { 1 ≤ turns }

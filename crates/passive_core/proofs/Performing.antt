@@ -1,19 +1,18 @@
--- Sections that were seen to have ended, looks for all retired entries, and whom a turn meets where every CPU may act.
+-- Sections that were seen to have ended, looks for all retired entries, and whom a turn meets where no CPU is trying for a reference.
 use Rattle.std.proofs.Common.{◌≡◌, ℕ, ◌+◌, ◌%◌, ◌<◌, inr, List, length, get_or, set, Option, Some, None, Bool, true, false, not, ◌&&◌, ◌||◌, ◌==◌, refl, sym, ap, subst, ◌∙◌, arith, get_or-set_same, get_or-set_other, ◌-◌, nat_lt, Ok}
 use Rattle.std.specs.Prelude.{is_some}
-use Rattle.std.proofs.lemmas.Bool.{cases_eq, eq-eqb, and_parts}
+use Rattle.std.proofs.lemmas.Bool.{cases_eq, eq-eqb}
 use Rattle.std.proofs.lemmas.Option.{same_Some}
-use Rattle.passive_core.specs.Types.{Entry, Mark, Slot, Vacant, Retired, Hand, Empty, Stage}
+use Rattle.passive_core.specs.Types.{Entry, Mark, Slot, Vacant, Retired, Stage}
 use Rattle.registry_values.specs.Common.{is_retired_as, retired_slot, retired_number, is_retired, slot_at, least_below, is_out, no_mark, stage_of}
 use Rattle.registry_values.specs.Answers as stages
 use Rattle.registry_values.proofs.Slots.{none_below, retired_slot_tells, least_agrees}
-use Rattle.protocol.specs.Common.{AllPassed, is_inside, Holds, State, begin_at, mark_at, section_at, hand_at, held_at, is_empty, passive_at, passive_in, trying_at, trying_of}
+use Rattle.protocol.specs.Common.{AllPassed, is_inside, Holds, State, begin_at, mark_at, section_at, held_at, passive_at, passive_in, trying_at}
 use Rattle.protocol.proofs.Cells.{position_passes, slot_number}
 use Rattle.protocol.proofs.Occupied.{in_within, one_number}
 use Rattle.protocol.proofs.Either.{either}
-use Rattle.passive_core.specs.Common.{MarksPass, Passes, is_open_since, is_snapshot, AllOutside, OnlyPasses, advance_answer, first_obstacle, has_passive, may_act, plain_obstacle, plain_stage, refers_to, stage_in}
+use Rattle.passive_core.specs.Common.{MarksPass, Passes, is_open_since, is_snapshot, AllOutside, OnlyPasses, advance_answer, first_obstacle, has_passive, plain_obstacle, plain_stage, refers_to, stage_in}
 use Rattle.passive_core.proofs.Advancing.{only_marks, passes_none, clear_none, unclear_some}
-use Rattle.passive_core.proofs.Entering.{acts_free}
 
 -- A word that hasn't changed is out of its section exactly where the CPU is outside.
 
@@ -88,36 +87,27 @@ retired_found s t n on gone is =
     let one : (i.0 ≡ t) × (f.1.0 ≡ e.0) = one_number s.history s.slots t i.0 e.0 f.1.0 on.slots (inr e.1) (inr f.1.1) (f.1.2 ∙ sym e.2) in
     i.1 ∙ ap (λ (k : ℕ). Some k) one.0
 
--- Where every CPU may act, no hand tries to get a reference: a turn meets who holds the entry.
-
-empty_tells : (h : Hand) → is_empty h ≡ true → h ≡ Empty
-empty_tells Empty is = refl
-empty_tells _ is = absurd (let q : ◌≡◌ {A = Bool} false true = is in cc)
-
--- nothing is in a hand
-pub hands_empty : (s : State) → Holds s → ((c : ℕ) → may_act s c ≡ true) → (c : ℕ) → hand_at s c ≡ Empty
-hands_empty s on acts c = empty_tells (hand_at s c) (and_parts _ (is_empty (hand_at s c)) (acts_free s c on (acts c))).1
+-- Where no hand tries to get a reference, a turn meets who holds the entry.
 
 -- where a CPU is clear if its word is 0, the word says whether it has a passive reference
 counts_some : (w : ℕ) (clear : Bool) → (clear ≡ true → w ≡ 0) → (nat_lt 0 w && not clear) ≡ nat_lt 0 w
 counts_some w true none = clear_none (nat_lt 0 w) true refl ∙ sym (ap (nat_lt 0) (none refl))
 counts_some w false none = unclear_some (nat_lt 0 w) false refl
 
-pub refers : (s : State) (t c : ℕ) (e : Entry) → Holds s → hand_at s c ≡ Empty → slot_at s.slots t ≡ Retired e → has_passive s t c ≡ refers_to s e.number c
-refers s t c e on empty gone =
-    let untried : trying_at s.hands c t ≡ 0 = ap (trying_of t) empty in
+pub refers : (s : State) (t c : ℕ) (e : Entry) → Holds s → trying_at s.hands c t ≡ 0 → slot_at s.slots t ≡ Retired e → has_passive s t c ≡ refers_to s e.number c
+refers s t c e on untried gone =
     let word : passive_at s.passive c t - trying_at s.hands c t ≡ passive_at s.passive c t = omega (arith, untried) in
     counts_some (passive_at s.passive c t) (mark_at s.marks t c).clear (λ clear. (on.passive.clear c t e gone clear).1 ∙ untried)
     ∙ ap (nat_lt 0) (sym (ap (passive_in s.passive s.hands c) (slot_number s.history s.slots e t on.slots (inr gone)) ∙ word))
 
-plain_in : (s : State) (n : ℕ) (o : Option ℕ) → Holds s → ((c : ℕ) → may_act s c ≡ true) → retired_slot s.slots n ≡ o → stage_in s n o ≡ stages.stage_in (plain_obstacle s n) o
-plain_in s n None on acts at = refl
-plain_in s n (Some t) on acts at =
+plain_in : (s : State) (n : ℕ) (o : Option ℕ) → Holds s → ((c t : ℕ) → trying_at s.hands c t ≡ 0) → retired_slot s.slots n ≡ o → stage_in s n o ≡ stages.stage_in (plain_obstacle s n) o
+plain_in s n None on untried at = refl
+plain_in s n (Some t) on untried at =
     let told = retired_slot_tells s.slots n t at in
     let same : least_below (has_passive s t) s.settings.cpus ≡ least_below (refers_to s told.1.0.number) s.settings.cpus =
-    least_agrees (has_passive s t) (refers_to s told.1.0.number) s.settings.cpus (λ c lt. refers s t c told.1.0 on (hands_empty s on acts c) told.1.1) in
+    least_agrees (has_passive s t) (refers_to s told.1.0.number) s.settings.cpus (λ c lt. refers s t c told.1.0 on (untried c t) told.1.1) in
     ap (λ (x : Stage). Ok x) (subst (λ (k : ℕ). first_obstacle s t k ≡ plain_obstacle s k t) told.1.2
     (ap (λ (p : Option ℕ). stage_of t (least_below (is_open_since s t) s.settings.cpus) p (held_at s.locals s.hands s.keeps s.due told.1.0.number t)) same))
 
-pub plain_is : (s : State) (n : ℕ) → Holds s → ((c : ℕ) → may_act s c ≡ true) → advance_answer s n ≡ plain_stage s n
-plain_is s n on acts = plain_in s n (retired_slot s.slots n) on acts refl
+pub plain_is : (s : State) (n : ℕ) → Holds s → ((c t : ℕ) → trying_at s.hands c t ≡ 0) → advance_answer s n ≡ plain_stage s n
+plain_is s n on untried = plain_in s n (retired_slot s.slots n) on untried refl

@@ -606,10 +606,10 @@ struct kupaldiz_met {
  * kupaldiz_destroy - one turn of destroying the retired entry with this number:
  * psref_target_destroy, localcount_drain
  *
- * It is done exactly when the entry's slot is vacant again. The entry is then gone, on every CPU,
- * now and later: no section may hold it, no passive and no local reference to it is held, and no
- * slot keeps it. The caller repeats the call, without the interlock in between, until it is done,
- * as kupaldiz_destroy_wait does. What the turn met first is written to `met`:
+ * It is done exactly when this turn has made the entry's slot vacant. The entry is then gone, on
+ * every CPU, now and later: no section may hold it, no passive and no local reference to it is
+ * held, and no slot keeps it. The caller repeats the call, without the interlock in between, until
+ * it is done, as kupaldiz_destroy_wait does. What the turn met first is written to `met`:
  *
  * - KUPALDIZ_GRACE, of any CPU, comes before any KUPALDIZ_PASSIVE, and KUPALDIZ_PASSIVE before
  *   KUPALDIZ_LOCAL. The lower-numbered of two CPUs comes first.

@@ -5,7 +5,7 @@ ghost use Rattle.registry_values.specs.declared.entry.Entry.{Entry as AnEntry};
 ghost use Rattle.passive_core.specs.Types.{Retired};
 ghost use Rattle.registry_values.specs.Common.{is_retired_as, retired_slot, is_retired, slot_at, least_below, stage_of};
 ghost use Rattle.passive_core.specs.Advancing.{is_open_since, has_passive, advance_answer, plain_stage, first_obstacle, AdvanceLeaves, StageLeaves, Settles, Empties, Gathers, HoldersAreOpen, MarksPass, MarksClear, SameBut, PassedBelow, ClearBelow, StageMarks, AdvanceMarks, destroy_answer, DestroyLeaves, DestroyMarks};
-ghost use Rattle.protocol.specs.Common.{AllPassed, AllClear, AllCollected, is_drained, held_at, at_rest, count_at, mark_at};
+ghost use Rattle.protocol.specs.Common.{AllPassed, AllClear, AllCollected, is_drained, held_at, at_rest, count_at, mark_at, trying_at};
 ghost use Rattle.passive_core.specs.Commands.{may_act};
 ghost use Rattle.passive_core.specs.Making.{AdvanceMakes, MakesOnly, IsWork, IsLookFor, IsPassiveLookFor, IsCollectionFor, IsFreeingOf, DestroyMakes};
 
@@ -21,13 +21,13 @@ impl Core {
     /// - `Local`: the local references to it (localcount(9)); its count words are collected then;
     /// - `Freed`: nothing holds it, and its slot, from 0, is vacant now.
     ///
-    /// Where every CPU may act, none is trying: the result is by who holds the entry alone (`plain`).
+    /// Where no CPU is trying for a reference, the result is by who holds the entry, and by the sections that are open since the snapshot (`plain`).
     ///
     /// Refused: `NotRetired` if no slot has the retired entry `number`; nothing has changed then.
     pub fn advance(&mut self, number: u64) -> Result<Stage, Refusal>
         requires { at_rest self.old.due ≡ true }
         ensures answer { result ≡ advance_answer self.old number }
-        ensures plain { ((c : ℕ) → may_act self.old c ≡ true) → result ≡ plain_stage self.old number }
+        ensures plain { ((c t : ℕ) → trying_at self.old.hands c t ≡ 0) → result ≡ plain_stage self.old number }
         ensures after { AdvanceLeaves self.old self.new number result }
         ensures marks { AdvanceMarks self.old self.new number result }
         ensures made { AdvanceMakes self.old self.new number result }

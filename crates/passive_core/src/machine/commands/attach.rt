@@ -30,6 +30,8 @@ impl Core {
     /// Attaches a driver, by a caller on the CPU c: the entry gets the next number, from 1, and the lowest-numbered slot, from 0, that is
     /// vacant and keeps nothing. Its words are stored, it is linked, and c has seen its change.
     ///
+    /// Condition (`lawful`): the name is one that `Name::parse` or `Name::from_words` returns.
+    ///
     /// Refused, in this order, and nothing has changed then:
     ///
     /// - `Inside`: c is inside a section;
@@ -70,6 +72,7 @@ impl Core {
 
     /// Attaches an interface, by a caller on the CPU c, on the driver that the live local reference with this id is to (localcount(9)): the
     /// slot takes the reference over and keeps it, so the id isn't live then. Else it is as `attach`.
+    /// Condition (`lawful`): the name is one that `Name::parse` or `Name::from_words` returns.
     /// Refused, in this order, and nothing has changed then: `Inside` if c is inside a section; `NeedsDriver` if the reference is to an
     /// interface; `NameTaken`; `NoSlot`; `HistoryFull` if the history has no room for this attach and the detach of each entry that is live
     /// then; `NoMemory`.

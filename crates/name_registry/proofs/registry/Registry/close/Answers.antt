@@ -18,4 +18,4 @@ returns-clause-run g c =
     let by_log = subst (λ (log : List LogItem). HasClosed a c.into_seat.result.view log last) seat.2 c.close.ensures.ended in
     let closed = subst (λ (s : Settings). HasClosed s b.view b.log last) c.args.self.settings (subst (λ (k : KeeperView). HasClosed a k b.log last) seat.1 by_log) in
     let run = closes_run z c.into_inner-keeper.result.keeper.keeper b c.deref_mut.result.now.cpu last c.hear_cpu.ensures.keeper c.hear_cpu.ensures.known c.hear_cpu.ensures.seen closed in
-    subst (λ (x : OnCpu). ClosesRun z x last) (shared c.cpu.inside.share.amount _ _ _ c.deref_mut.ensures.value c.cpu.view_is) record { keeper = run.keeper; run = run.run; known = run.known; seen = run.seen; gone = run.gone }
+    subst (λ (x : OnCpu). ClosesRun z x last) (shared c.cpu.inside.share.amount _ _ _ c.deref_mut.ensures.value c.cpu.view_is) record { keeper = run.keeper; log = run.log; run = run.run; known = run.known; seen = run.seen; gone = run.gone }

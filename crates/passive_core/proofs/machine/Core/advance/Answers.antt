@@ -28,7 +28,7 @@ returns-clause-answer c =
     ap (λ (x : Stage). Ok x) stage ∙ ap (stage_in s c.args.number) c.in-Some.ensures.value
 
 pub returns-clause-plain : goal.returns-clause-plain
-returns-clause-plain c = λ acts. returns-clause-answer c ∙ plain_is c.args.self.now c.args.number (subst Holds c.self.view_is c.self.invariant) acts
+returns-clause-plain c = λ untried. returns-clause-answer c ∙ plain_is c.args.self.now c.args.number (subst Holds c.self.view_is c.self.invariant) untried
 
 pub returns-clause-holders : goal.returns-clause-holders
 returns-clause-holders c = holders_are_open c.args.self.now (subst Holds c.self.view_is c.self.invariant) c.requires
