@@ -28,7 +28,7 @@ is_made() {
 }
 
 cd ../kupaldiz 2>/dev/null || exit
-# By header: the calls that note a place. Their bodies begin with begin_call.
+# By header: the calls that note a place. Their bodies begin with begin_call, or call one whose body does so by its plain name.
 write_places() {
     printf '/* places.h - macros of the names of a header'"'"'s calls, which note where each is made */\n#ifndef KUPALDIZ_WITHOUT_PLACES\n'
     while read -r header calls; do
@@ -44,17 +44,20 @@ write_places() {
 is_made places.h ../../named.sh || { write_places >"places.$$" && mv "places.$$" places.h; } <<'PLACED'
 cpu kupaldiz_bind kupaldiz_unbind curlwp_bindx kpreempt_enable
 kernel panic kpause kthread_exit kthread_join copyin copyout tsleep mtsleep wakeup kupaldiz_kernel_lock kupaldiz_kernel_unlock kupaldiz_set_hz
-kernel kupaldiz_run_once
+kernel kupaldiz_run_once kthread_create
 localcount localcount_init localcount_fini localcount_drain localcount_acquire localcount_release
 locks mutex_destroy mutex_enter mutex_exit mutex_tryenter mutex_spin_enter mutex_spin_exit mutex_obj_free cv_destroy cv_wait cv_wait_sig cv_timedwait
-locks cv_timedwait_sig cv_signal cv_broadcast rw_destroy rw_enter rw_tryenter rw_exit
+locks mutex_obj_alloc cv_timedwait_sig cv_signal cv_broadcast rw_destroy rw_enter rw_tryenter rw_exit
 memory kmem_alloc kmem_zalloc kmem_free kmem_intr_alloc kmem_intr_zalloc kmem_intr_free pool_destroy pool_get pool_put pool_cache_destroy
-memory pool_cache_get pool_cache_put percpu_free percpu_putref
+memory pool_cache_init pool_cache_get pool_cache_put percpu_alloc percpu_create percpu_free percpu_putref
 module_hook module_hook_set module_hook_unset module_hook_tryenter module_hook_exit
-pserialize pserialize_destroy pserialize_read_enter pserialize_read_exit pserialize_perform
-psref psref_class_destroy psref_target_init psref_target_destroy psref_acquire psref_release psref_copy psref_held
-softint softint_disestablish softint_schedule kupaldiz_splraise splx xc_broadcast xc_barrier callout_destroy callout_halt
-workqueue workqueue_enqueue workqueue_wait workqueue_destroy
+pserialize pserialize_create pserialize_destroy pserialize_read_enter pserialize_read_exit pserialize_perform
+psref psref_class_create psref_class_destroy psref_target_init psref_target_destroy psref_acquire psref_release psref_copy psref_held
+softint softint_establish softint_disestablish softint_schedule kupaldiz_splraise splx xc_broadcast xc_barrier callout_destroy callout_halt
+mbuf m_get m_gethdr m_free
+pcq pcq_create pcq_destroy
+systm hashinit hashdone
+workqueue workqueue_create workqueue_enqueue workqueue_wait workqueue_destroy
 PLACED
 
 # The calls of the map, except those that are named so in C, too.

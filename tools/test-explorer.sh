@@ -57,6 +57,12 @@ replays_as_printed() {
     diff <(grep -v ' schedules, \|: found by ' "$log.said") <(grep -v ' schedules, \|: found by ' "$log.again") && [ ! -s "$log.other" ]
 }
 
+# It has the program's words, too, as a shell reads them.
+repeats_words() {
+    (cd "$room" && ./a.out one "two words") >"$log.words"
+    grep -Fx "explorer: again: EXPLORER_REPLAY='explorer:b2c2b' ./a.out one two\\ words" "$log.words"
+}
+
 # gdb shows the last step of that schedule by the manual page's commands.
 stops_in_debugger() {
     sed -n '/^set follow-fork-mode child$/,/^\.Ed$/p' man/kupaldiz_explorer.7 | sed '/^\.Ed$/d' >"$room/commands" && grep -q . "$room/commands" &&
@@ -123,6 +129,7 @@ done
 counted "the seven drivers in every order, as the README says" drivers_as_told
 check "the example of the README, right and wrong, as it says" example_as_told
 check "a schedule again, by the line that is printed" replays_as_printed
+check "that line of a program with words" repeats_words
 if command -v gdb >/dev/null; then
     check "the step at fault in a debugger, by the manual page's commands" stops_in_debugger
 fi

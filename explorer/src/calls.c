@@ -122,7 +122,8 @@ void check_none_left(void)
 		left++;
 		one = &rows[at];
 	}
-	fail_if(left > 0, "%u locks, condition variables or callouts are left at the end, one of them made by %s at %s", left, one->made.call, place_made(one));
+	fail_if(left == 1, "what %s has made at %s is left at the end", one->made.call, place_made(one));
+	fail_if(left > 1, "%u locks, condition variables or callouts are left at the end, one of them made by %s at %s", left, one->made.call, place_made(one));
 }
 
 WRAPPED(void, mutex_init, (kmutex_t *mutex, kmutex_type_t type, int level), (mutex, type, level),

@@ -188,5 +188,6 @@ void check_heap(void)
 		left++;
 		first = block;
 	}
-	fail_if(left > options.left, "%u blocks of memory are left at the end, one of them taken by %s%s", left, first->call, AT_PLACE(first->place));
+	fail_if(left > options.left, left == 1 ? "%u block of memory is left at the end, taken by %s%s"
+	    : "%u blocks of memory are left at the end, one of them taken by %s%s", left, first->call, AT_PLACE(first->place));
 }

@@ -1,4 +1,5 @@
 /* show.c - what was found, as lines; a schedule as a short text; the place of an instruction for addr2line(1) */
+#include <ctype.h>
 #include <dlfcn.h>
 #include <link.h>
 
@@ -109,6 +110,22 @@ static void show_outcomes(FILE *to, const struct explorer_found *found)
 		fprintf(to, "%s: other outcomes: %llu\n", options.name, (unsigned long long)found->others);
 }
 
+/* The program and its words, as a shell reads them. */
+static void show_command(FILE *to)
+{
+	FILE *words = fopen("/proc/self/cmdline", "r");
+	for (int byte, before = ' '; words != NULL && (byte = getc(words)) != EOF; before = byte) {
+		if (before == '\0')
+			fputc(' ', to);
+		if (byte != '\0')
+			fprintf(to, isalnum(byte) || byte > 127 || strchr("_./=:,+-", byte) != NULL ? "%c" : "\\%c", byte);
+	}
+	if (words == NULL)
+		fputs(program_invocation_name, to);
+	else
+		fclose(words);
+}
+
 void show(FILE *to, const struct explorer_found *found)
 {
 	show_counts(to, found);
@@ -121,7 +138,9 @@ void show(FILE *to, const struct explorer_found *found)
 		fprintf(to, "%s: before that: %s\n", options.name, found->failed);
 	fprintf(to, "%s: found by run %llu; schedule %s, switches %u, preemptions %u\n", options.name, (unsigned long long)found->first,
 	    found->schedule, found->changes, found->preemptions);
-	fprintf(to, "%s: again: EXPLORER_REPLAY='%s:%s' %s\n", options.name, options.name, found->schedule, program_invocation_name);
+	fprintf(to, "%s: again: EXPLORER_REPLAY='%s:%s' ", options.name, options.name, found->schedule);
+	show_command(to);
+	fputc('\n', to);
 	show_steps(to);
 }
 

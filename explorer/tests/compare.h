@@ -9,14 +9,21 @@ struct pair {
 	struct explorer_found whole, reduced;
 };
 
-/* A search of at most so many schedules, in which a fault is an outcome by its line. */
-static inline struct explorer_found search_for(void (*begin)(void), void (*finish)(void), uint64_t schedules, unsigned ticks, bool whole)
+/* A search in which a fault is an outcome by its line. */
+static inline struct explorer_found search_by(void (*begin)(void), struct explorer_options options)
 {
 	struct explorer_found found;
-	const struct explorer_options options = {.quiet = true, .goes_on = true, .racy = true, .reliable = true, .whole = whole, .schedules = schedules,
-	    .bounded = 1, .preemptions = 1, .random = 1, .ticks = ticks, .finish = finish, .found = &found};
+	options.quiet = options.goes_on = options.racy = options.reliable = true;
+	options.found = &found;
 	explorer_run(begin, &options);
 	return found;
+}
+
+/* One of at most so many schedules. */
+static inline struct explorer_found search_for(void (*begin)(void), void (*finish)(void), uint64_t schedules, unsigned ticks, bool whole)
+{
+	return search_by(begin, (struct explorer_options){.whole = whole, .schedules = schedules, .bounded = 1, .preemptions = 1, .random = 1, .ticks = ticks,
+	    .finish = finish});
 }
 
 static inline bool has_outcomes_of(const struct explorer_found *found, const struct explorer_found *other)
@@ -27,17 +34,23 @@ static inline bool has_outcomes_of(const struct explorer_found *found, const str
 	return true;
 }
 
-/* Whether both searches are through: they come to the same outcomes then. */
+/* Whether a search is through, and there was room for all that it came to. */
+static inline bool has_all(const struct explorer_found *found)
+{
+	return is_tried(found) && found->others == 0;
+}
+
+/* Whether both are: they come to the same outcomes then. */
 static inline bool are_through(const struct pair *pair)
 {
-	return is_tried(&pair->whole) && is_tried(&pair->reduced) && pair->whole.others == 0 && pair->reduced.others == 0;
+	return has_all(&pair->whole) && has_all(&pair->reduced);
 }
 
 /* A search that isn't through has found a part. */
 static inline bool do_agree(const struct pair *pair)
 {
-	bool all = !is_tried(&pair->whole) || has_outcomes_of(&pair->whole, &pair->reduced);
-	return all && (!is_tried(&pair->reduced) || has_outcomes_of(&pair->reduced, &pair->whole));
+	bool all = !has_all(&pair->whole) || has_outcomes_of(&pair->whole, &pair->reduced);
+	return all && (!has_all(&pair->reduced) || has_outcomes_of(&pair->reduced, &pair->whole));
 }
 
 static inline void show_found(const char *name, const struct explorer_found *found)

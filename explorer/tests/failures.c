@@ -1,4 +1,6 @@
 /* failures - calls that fail, waits that end early, works, hooks, soft interrupts and the parts of CPUs: what the explorer finds, and that it tries each */
+#include <sys/mbuf.h>
+
 #include "finds.h"
 
 static kmutex_t lock;
@@ -243,19 +245,36 @@ HANDLER(ask_parts, percpu_foreach(parts, look_at, arg))
 static void make_parts(void) { parts = percpu_alloc(sizeof(unsigned)); }
 static void end_parts(void) { percpu_free(parts, sizeof(unsigned)); end_lock(); }
 
+/* ---- Memory that calls in headers have taken: the place is the driver's. ---- */
+
+HANDLER(leave_packet, (void)m_gethdr(M_WAIT, MT_DATA))
+HANDLER(leave_table, unsigned long mask; (void)hashinit(4, HASH_LIST, true, &mask))
+
+static void end_chain_twice(void *arg)
+{
+	struct mbuf *first = m_get(M_WAIT, MT_DATA);
+	(void)arg;
+	first->m_next = m_get(M_WAIT, MT_DATA);
+	m_freem(first);
+	m_freem(first->m_next);
+}
+
 /* ---- The cases: a fault by its line, and what had failed before; or outcomes. ---- */
 
 static const struct find cases[] = {
 	{"object", "KASSERT: not so: object != NULL, at PLACE", use_object, .failures = 1, .failed = "pool_get at PLACE fails in thread \"first\""},
 	{"thread", "KASSERT: not so: kthread_create(PRI_NONE, KTHREAD_MPSAFE, NULL, end_at_once, NULL, NULL, \"made\") == 0, at PLACE", make_thread,
-	    .failures = 1, .failed = "kthread_create fails in thread \"first\""},
-	{"softint", "KASSERT: not so: softint != NULL, at PLACE", make_softint, .failures = 1, .failed = "softint_establish fails in thread \"first\""},
+	    .failures = 1, .failed = "kthread_create at PLACE fails in thread \"first\""},
+	{"softint", "KASSERT: not so: softint != NULL, at PLACE", make_softint, .failures = 1, .failed = "softint_establish at PLACE fails in thread \"first\""},
 	{"queue", "KASSERT: not so: workqueue_create(&made, \"queue\", do_no_work, NULL, PRI_NONE, IPL_NONE, WQ_MPSAFE) == 0, at PLACE", make_queue,
-	    .failures = 1, .failed = "workqueue_create fails in thread \"first\""},
+	    .failures = 1, .failed = "workqueue_create at PLACE fails in thread \"first\""},
 	{"two blocks", "KASSERT: not so: one != NULL || two != NULL, at PLACE", use_two_blocks, .failures = 2,
 	    .failed = "kmem_alloc at PLACE fails in thread \"first\"; kmem_alloc at PLACE fails in thread \"first\""},
 	{"once", "KASSERT: not so: ready, at PLACE", wait_once, make_ready, .finish = end_lock, .failures = 1,
 	    .failed = "cv_wait at PLACE ends although nobody woke it in thread \"first\""},
+	{"a packet that is left", "1 block of memory is left at the end, taken by kmem_intr_zalloc at PLACE", leave_packet, .failed = ""},
+	{"a table that is left", "1 block of memory is left at the end, taken by kmem_zalloc at PLACE", leave_table, .failed = ""},
+	{"a chain's end", "plain read at PLACE: use of freed memory: thread \"first\" gave it back by kmem_intr_free at PLACE", end_chain_twice, .failed = ""},
 	{"callout", "kmem_free at PLACE: what callout_init has made at PLACE lies in it and was never destroyed", free_callout, .failed = ""},
 	{"work", "kmem_free at PLACE: what workqueue_enqueue has made at PLACE lies in it and was never destroyed", free_work, .make = lock_works, .failed = ""},
 	{"deadlock", "nobody can go on: thread \"first\" waits in workqueue_wait at PLACE for a wake-up that nobody is left to give", wait_with_lock,

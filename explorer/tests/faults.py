@@ -132,7 +132,7 @@ FAULTS = [
         r"in a soft interrupt, and the lock is of IPL_NONE|at a raised level|with a spin lock", [
         ("	mutex_init(&rxq_lock, MUTEX_DEFAULT, IPL_NET);\n", "	mutex_init(&rxq_lock, MUTEX_DEFAULT, IPL_NONE);\n")]),
     Fault("rxintr", "rxintr", "a packet that is never freed", (1, 3, 0), "not in 100,000",
-        r"blocks of memory are left at the end, one of them taken by kmem_intr_alloc", [
+        r"left at the end, (one of them )?taken by kmem_intr_alloc at ", [
         ("		rx_deliver(p->p_number);\n		kmem_intr_free(p, sizeof(*p));\n", "		rx_deliver(p->p_number);\n")]),
     Fault("rxintr", "rxintr", "a psref acquired after the section", (13, 3, 1), "not in 100,000", FREED, [(DELIVER, swapped(DELIVER, 0, 1))]),
     Fault("rxintr", "rxintr", "a free before the destroy", (1, 0, 0), "not in 100,000", FREED, [
@@ -148,7 +148,7 @@ FAULTS = [
     Fault("counters", "counters", "the wrong size at the end", (1, 2, 0), "run 1", r"bytes are given back of", [
         ("	percpu_free(counters, sizeof(uint64_t) * COUNTERS);\n", "	percpu_free(counters, sizeof(uint64_t));\n")]),
     Fault("counters", "counters", "counters that are never freed", (1, 2, 0), "not in 100,000",
-        r"blocks of memory are left at the end, one of them taken by percpu_alloc", [
+        r"1 block of memory is left at the end, taken by percpu_alloc at ", [
         ("	percpu_free(counters, sizeof(uint64_t) * COUNTERS);\n", "")]),
     Fault("unload", "unload", "a perform forgotten", (959, 2, 1), "run 62,574", FREED, [(UNHOOK, without(UNHOOK, 1))]),
     Fault("unload", "unload", "a drain before the unlinking", (959, 1, 1), "run 13", FREED, [(UNHOOK, UNHOOK.split("\n")[2] + "\n" + without(UNHOOK, 2))]),
@@ -166,7 +166,7 @@ FAULTS = [
         r"callout_destroy: the callout is pending|callout_destroy: the callout runs|freed", [
         ("	callout_halt(&sc->sc_callout, &sc->sc_lock);\n", "")]),
     Fault("unload", "unload", "a worker that isn't joined", (1, 2, 0), "run 2",
-        r"freed memory|a thread waits for|blocks of memory are left|signal 11|status 1", [
+        r"freed memory|a thread waits for|of memory (is|are) left|signal 11|status 1", [
         ("	kthread_join(sc->sc_worker);\n", "")]),
 ]
 

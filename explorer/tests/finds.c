@@ -502,6 +502,8 @@ static void destroy_all_but_one(void)
 			mutex_destroy(&many_locks[at]);
 }
 
+static void leave_things(void) { }
+
 static void make_many_locks(void)
 {
 	for (unsigned at = 0; at < MANY; at++)
@@ -535,7 +537,7 @@ static const struct find finds[] = {
 	{"a higher level's handler that waits", NULL, wait_for_level, write_once, .make = higher_waits},
 	{"a lower level's handler that waits", NULL, wait_for_level, write_once, .make = lower_waits},
 	{"the end of a cache that is read in sections", NULL, read_object, end_cache, .make = make_cache},
-	{"a lock object that is left", "taken by mutex_obj_alloc", write_once, write_once, .make = left_object},
+	{"a lock object that is left", "1 block of memory is left at the end, taken by mutex_obj_alloc at *finds.c:", write_once, write_once, .make = left_object},
 	{"the last of many targets that is left", "what psref_target_init has made at *finds.c:* is left at the end",
 	    write_once, write_once, .make = make_targets},
 	{"a count with references that are left",
@@ -573,8 +575,10 @@ static const struct find finds[] = {
 	{"a step, and two locks in two orders", "deadlock: thread \"first\" waits in mutex_enter at", step_one_two, step_two_one, .switches = 1},
 	{"the last of many words", "data race: ", write_many, write_last},
 	{"the last of many releases", "data race: ", release_many, acquire_another},
-	{"one of many locks that is left", "1 locks, condition variables or callouts are left at the end, one of them made by mutex_init at finds.c:", write_once,
+	{"one of many locks that is left", "what mutex_init has made at finds.c:* is left at the end", write_once,
 	    .make = make_many_locks, .finish = destroy_all_but_one},
+	{"several locks that are left", "4 locks, condition variables or callouts are left at the end, one of them made by cv_init at finds.c:", write_once,
+	    .finish = leave_things},
 	{"a thread's own way to round", NULL, round_up, round_to_nearest},
 	{"a fault by two ways", "KASSERT", change_and_back, look, come_first, .switches = 1},
 };

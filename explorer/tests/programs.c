@@ -5,7 +5,8 @@
  *     programs count COUNT FIRST   so many that were compared to their end
  *     programs seed FIRST          that one alone, with what it comes to
  *
- * A program has two or three threads, each bound to a CPU or not. A thread does one thing of a list, with up to two simpler ones before and after it.
+ * A program has two or three threads, each bound to a CPU or not. A thread does one thing of a list, with up to two simpler ones before and after it. Of one
+ * that has too many orders some are tried, by few preemptions and by random priorities: what they come to is among what the reduction comes to.
  */
 #include <stdlib.h>
 #include <sys/atomic.h>
@@ -19,6 +20,7 @@
 #include <sys/lwp.h>
 #include <sys/module_hook.h>
 #include <sys/mutex.h>
+#include <sys/once.h>
 #include <sys/percpu.h>
 #include <sys/pool.h>
 #include <sys/pserialize.h>
@@ -208,6 +210,48 @@ static void raise_and_store(unsigned thread)
 	splx(s);
 }
 
+/* A sleep gives the level up, and the kernel lock. */
+static void raise_and_wait(unsigned thread)
+{
+	int s = splnet();
+	store(1, thread + 19);
+	pserialize_perform(psz);
+	observe(thread, load(0));
+	splx(s);
+}
+
+static void kernel_lock_around(unsigned thread, void (*body)(unsigned thread))
+{
+	KERNEL_LOCK(1, NULL);
+	store(0, thread + 5);
+	body(thread);
+	observe(thread, load(0));
+	KERNEL_UNLOCK_ONE(NULL);
+}
+
+static void lock_kernel(unsigned thread) { kernel_lock_around(thread, load_1); }
+static void lock_kernel_and_wait(unsigned thread) { kernel_lock_around(thread, perform); }
+static void lock_kernel_and_lock(unsigned thread) { kernel_lock_around(thread, lock_and_load); }
+static void lock_kernel_and_spin(unsigned thread) { kernel_lock_around(thread, spin_and_load); }
+
+static once_t control;
+
+static int prepare(void)
+{
+	store(1, 20);
+	pserialize_perform(psz);
+	return 3;
+}
+
+static void run_once(unsigned thread)
+{
+	observe(thread, (unsigned)RUN_ONCE(&control, prepare));
+	observe(thread, load(1));
+}
+
+static void sleep_for_a_tick(unsigned thread) { observe(thread, tsleep(&flag, PRI_NONE, "programs", 1) == 0 ? 1 : 2); }
+static void wake_sleepers(unsigned thread) { (void)thread; wakeup(&flag); }
+
 static void load_without_preemption(unsigned thread)
 {
 	kpreempt_disable();
@@ -363,7 +407,10 @@ static const struct thing things_to_do[] = {
     {"reader", read_lock, 3, RW}, {"writer", write_lock, 3, RW}, {"await flag", await_flag, 3, LOCKS | CV}, {"set flag", set_flag, 3, LOCKS | CV},
     {"await a tick", await_flag_for_a_tick, 4, LOCKS | CV}, {"signal", wake_one, 1, CV}, {"pause", pause_once, 2, 0}, {"set callout", set_callout, 5, CALLOUT},
     {"halt callout", halt_callout, 1, CALLOUT}, {"stop callout", stop_callout, 1, CALLOUT}, {"raise, store", raise_and_store, 3, 0},
-    {"no preemption, load", load_without_preemption, 3, 0}, {"find CPU", find_cpu, 1, 0}, {"cache", use_cache, 3, CACHE}, {"thread", make_and_join, 4, 0}};
+    {"no preemption, load", load_without_preemption, 3, 0}, {"find CPU", find_cpu, 1, 0}, {"cache", use_cache, 3, CACHE}, {"thread", make_and_join, 4, 0},
+    {"raise, wait", raise_and_wait, 5, PSZ}, {"kernel lock", lock_kernel, 5, 0}, {"kernel lock, wait", lock_kernel_and_wait, 6, PSZ},
+    {"kernel lock, lock", lock_kernel_and_lock, 8, LOCKS}, {"kernel lock, spin", lock_kernel_and_spin, 7, SPIN}, {"once", run_once, 6, PSZ},
+    {"sleep", sleep_for_a_tick, 2, 0}, {"wake up", wake_sleepers, 1, 0}};
 
 struct text {
 	int cpu;	/* below 0: the thread isn't bound */
@@ -533,16 +580,23 @@ static void show_program(uint64_t of)
 	}
 }
 
-enum { SCHEDULES = 1200 };
+enum { SCHEDULES = 1200, LONG_IN = 8 };	/* of so many programs one is tried where it is long */
 
-static unsigned compared, in_part, faulty, wrong;
+static unsigned compared, in_part, sampled, faulty, wrong;
 static uint64_t wholes, reduceds;
+
+/* Some orders of a long program. */
+static struct explorer_found sample(uint64_t of)
+{
+	return search_by(begin, (struct explorer_options){.schedules = 1, .bounded = 100, .random = 100, .seed = of + 1, .ticks = ticks, .finish = finish});
+}
 
 static void compare(uint64_t of, bool shows)
 {
-	const struct pair pair = {search_for(begin, finish, SCHEDULES, ticks, true), search_for(begin, finish, SCHEDULES, ticks, false)};
+	bool is_long = !is_short(1.5 * SCHEDULES);
+	const struct pair pair = {is_long ? sample(of) : search_for(begin, finish, SCHEDULES, ticks, true), search_for(begin, finish, SCHEDULES, ticks, false)};
 	bool agree = do_agree(&pair);
-	*(are_through(&pair) ? &compared : &in_part) += 1;
+	*(are_through(&pair) ? &compared : is_long && has_all(&pair.reduced) ? &sampled : &in_part) += 1;
 	wholes += pair.whole.schedules;
 	reduceds += pair.reduced.schedules + pair.reduced.cut;
 	wrong += !agree;
@@ -578,10 +632,11 @@ int main(int words_given, char **given)
 	}
 	for (; counts ? compared < most : now() < end; first++) {
 		make_program(first);
-		if (is_short(1.5 * SCHEDULES))
+		if (is_short(1.5 * SCHEDULES) || (!counts && first % LONG_IN == 0))
 			compare(first, false);
 	}
-	printf("%u programs come to the same by %llu schedules as by %llu, %u of them to a fault; of %u more a part was compared; %u are different; next seed %llu\n",
-	    compared, (unsigned long long)reduceds, (unsigned long long)wholes, faulty, in_part, wrong, (unsigned long long)first);
+	printf("%u programs come to the same by %llu schedules as by %llu, %u of them to a fault; of %u more a part was compared, and of %u long ones some "
+	    "orders; %u are different; next seed %llu\n",
+	    compared, (unsigned long long)reduceds, (unsigned long long)wholes, faulty, in_part, sampled, wrong, (unsigned long long)first);
 	return wrong != 0;
 }

@@ -119,7 +119,7 @@ static void *run_kthread(void *of)
 /* Once it has begun another thread may join and free it, if it is to be joined. */
 int kthread_create(pri_t priority, int flags, struct cpu_info *cpu, void (*body)(void *), void *arg, lwp_t **made, const char *format, ...)
 {
-	struct thread *me = sleepable(begin_plain(__func__));
+	struct thread *me = sleepable(begin_call(__func__));
 	if (FAILS())
 		return ENOMEM;
 	struct kthread *kthread = memory(me, sizeof(*kthread));

@@ -181,7 +181,7 @@ void pool_put(struct pool *pool, void *object) { pool_release(begin_call(__func_
 pool_cache_t pool_cache_init(size_t size, unsigned align, unsigned offset, unsigned flags, const char *name, struct pool_allocator *from,
     int level, int (*make)(void *, void *, int), void (*end)(void *, void *), void *arg)
 {
-	struct thread *me = sleepable(begin_plain(__func__));
+	struct thread *me = sleepable(begin_call(__func__));
 	struct pool_cache *cache = memory(me, sizeof(*cache));
 	*cache = (struct pool_cache){.make = make, .end = end, .arg = arg};
 	pool_init(&cache->pool, size, align, offset, (int)flags, name, from, level);
@@ -283,10 +283,10 @@ static percpu_t *create(struct thread *me, size_t size, percpu_callback_t make, 
 
 percpu_t *percpu_create(size_t size, percpu_callback_t make, percpu_callback_t end, void *arg)
 {
-	return create(begin_plain(__func__), size, make, end, arg);
+	return create(begin_call(__func__), size, make, end, arg);
 }
 
-percpu_t *percpu_alloc(size_t size) { return create(begin_plain(__func__), size, NULL, NULL, NULL); }
+percpu_t *percpu_alloc(size_t size) { return create(begin_call(__func__), size, NULL, NULL, NULL); }
 
 void percpu_free(percpu_t *percpu, size_t size)
 {

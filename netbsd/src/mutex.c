@@ -186,7 +186,7 @@ int mutex_ownable(const kmutex_t *mutex)
 
 kmutex_t *mutex_obj_alloc(kmutex_type_t type, int level)
 {
-	struct thread *me = sleepable(begin_plain(__func__));
+	struct thread *me = sleepable(begin_call(__func__));
 	struct counted_mutex *counted = memory(me, sizeof(*counted));
 	mutex_init(&counted->mutex, type, level);
 	counted->references = 1;

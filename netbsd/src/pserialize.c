@@ -3,7 +3,7 @@
 
 pserialize_t pserialize_create(void)
 {
-	struct thread *me = sleepable(begin_plain(__func__));
+	struct thread *me = sleepable(begin_call(__func__));
 	return memory(me, sizeof(struct pserialize));
 }
 

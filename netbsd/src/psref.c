@@ -11,7 +11,7 @@ enum { FIRST_ROOM = 16 };
 
 struct psref_class *psref_class_create(const char *name, ipl_cookie_t level)
 {
-	struct thread *me = sleepable(begin_plain(__func__));
+	struct thread *me = sleepable(begin_call(__func__));
 	struct psref_class *psref_class = memory(me, sizeof(*psref_class));
 	*psref_class = (struct psref_class){.name = name, .level = level};
 	return psref_class;

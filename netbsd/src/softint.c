@@ -122,7 +122,7 @@ void *make_softint(unsigned flags, void (*handler)(void *), void *arg)
 
 void *softint_establish(unsigned flags, void (*handler)(void *), void *arg)
 {
-	require_sleepable(begin_plain(__func__));
+	require_sleepable(begin_call(__func__));
 	return FAILS() ? NULL : make_softint(flags, handler, arg);
 }
 

@@ -97,7 +97,7 @@ static void end_queues(struct thread *me, struct workqueue *all, unsigned count)
 
 int workqueue_create(struct workqueue **made, const char *name, void (*body)(struct work *, void *), void *arg, pri_t priority, int level, int flags)
 {
-	struct thread *me = begin_plain(__func__);
+	struct thread *me = begin_call(__func__);
 	bool each = (flags & WQ_PERCPU) != 0;
 	unsigned count = each ? KUPALDIZ_CPUS : 1;
 	(void)priority;

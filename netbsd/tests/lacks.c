@@ -56,7 +56,7 @@ STOPS("kupaldiz_bind: out of memory, at PLACE", open_without(NOTHING_LACKS); on_
 THREAD(bind_without_value, lacks = VALUE; kupaldiz_bind(1))
 STOPS("kupaldiz_bind: out of memory, at PLACE", open_without(NOTHING_LACKS); on_thread(bind_without_value))
 
-STOPS("psref_class_create: out of memory", open_without(CALLOC); psref_class_create("other", IPL_NONE))
+STOPS("psref_class_create: out of memory, at PLACE", open_without(CALLOC); psref_class_create("other", IPL_NONE))
 STOPS("psref_acquire: out of memory, at PLACE", struct psref psref; open_without(REALLOC); psref_acquire(&psref, &target, things))
 STOPS("localcount_init: out of memory, at PLACE", struct localcount other; open_without(ALIGNED); localcount_init(&other))
 /* The table of those that are live grows. */
@@ -65,7 +65,7 @@ STOPS("psref_target_init: out of memory, at PLACE",
     for (unsigned at = 0; at < 100; at++)
 	    psref_target_init(&many[at], things))
 STOPS("kmem_alloc: out of memory, at PLACE", open_without(MALLOC); kmem_alloc(8, KM_SLEEP))
-STOPS("percpu_alloc: out of memory", open_without(ALIGNED); percpu_alloc(8))
+STOPS("percpu_alloc: out of memory, at PLACE", open_without(ALIGNED); percpu_alloc(8))
 STOPS("softint_schedule: no thread is left, at PLACE",
     open_without(NOTHING_LACKS); void *cookie = softint_establish(SOFTINT_NET, nothing, NULL); lacks = THREADS; softint_schedule(cookie))
 STOPS("callout_init: out of memory", open_without(THREADS); callout_init(&callout, CALLOUT_MPSAFE))
@@ -117,10 +117,10 @@ STOPS("pool_cache_put: no object of thingpl, or one that was given back, at PLAC
     pool_cache_t cache = pool_cache_init(24, 0, 0, 0, "thingpl", NULL, IPL_NONE, NULL, NULL, NULL); void *object = pool_cache_get(cache, PR_WAITOK);
     keeps = true; pool_cache_put(cache, object); pool_cache_put(cache, object))
 
-STOPS("percpu_create: inside a read section, entered at PLACE", pserialize_read_enter(); percpu_create(8, NULL, NULL, NULL))
+STOPS("percpu_create: inside a read section, entered at PLACE, at PLACE", pserialize_read_enter(); percpu_create(8, NULL, NULL, NULL))
 /* More than all memory, by itself, and once it is there for each CPU. */
-STOPS("percpu_alloc: out of memory", percpu_alloc(SIZE_MAX))
-STOPS("percpu_create: out of memory", percpu_create(SIZE_MAX / KUPALDIZ_CPUS + 1, NULL, NULL, NULL))
+STOPS("percpu_alloc: out of memory, at PLACE", percpu_alloc(SIZE_MAX))
+STOPS("percpu_create: out of memory, at PLACE", percpu_create(SIZE_MAX / KUPALDIZ_CPUS + 1, NULL, NULL, NULL))
 static void look(void *own, void *arg, struct cpu_info *cpu) { EXPECT(own != NULL && arg == NULL && cpu != NULL); }
 STOPS("percpu_foreach_xcall: inside a read section, entered at PLACE",
     percpu_t *percpu = percpu_alloc(8); pserialize_read_enter(); percpu_foreach_xcall(percpu, 0, look, NULL))

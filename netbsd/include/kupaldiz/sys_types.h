@@ -1,5 +1,5 @@
 /*
- * sys_types.h - what all headers of the layer use: the number of CPUs, the place of a call, priority levels, and where a test bench may look in
+ * sys_types.h - what all headers of the layer use: the number of CPUs, the place of a call, priority levels, and where the explorer may look in
  *
  * Each call that can stop or wait is also a macro of its own name, which records file and line for the lines on standard error. Code that needs
  * the plain functions defines KUPALDIZ_WITHOUT_PLACES before it includes anything of the layer.

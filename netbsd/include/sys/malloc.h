@@ -20,7 +20,7 @@ __BEGIN_DECLS
 static inline void *kupaldiz_malloc(size_t size, int flags)
 {
 	km_flag_t how = (flags & M_NOWAIT) != 0 ? KM_NOSLEEP : KM_SLEEP;
-	size_t *block = (size_t *)kmem_intr_alloc(size + 16, how);
+	size_t *block = (size_t *)(kmem_intr_alloc)(size + 16, how);
 	if (block == NULL)
 		return NULL;
 	*block = size + 16;
@@ -31,12 +31,12 @@ static inline void *kupaldiz_malloc(size_t size, int flags)
 static inline void kupaldiz_mfree(void *memory)
 {
 	size_t *block = (size_t *)(void *)((char *)memory - 16);
-	kmem_intr_free(block, *block);
+	(kmem_intr_free)(block, *block);
 }
 
 __END_DECLS
 
-#define malloc(size, type, flags)	kupaldiz_malloc(size, flags)
-#define free(memory, type)		kupaldiz_mfree(memory)
+#define malloc(size, type, flags)	(kupaldiz_at(KUPALDIZ_HERE), kupaldiz_malloc(size, flags))
+#define free(memory, type)		(kupaldiz_at(KUPALDIZ_HERE), kupaldiz_mfree(memory))
 
 #endif

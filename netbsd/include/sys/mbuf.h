@@ -33,7 +33,7 @@ __attribute__((weak)) unsigned kupaldiz_mbufs;
 
 static inline struct mbuf *m_get(int how, int type)
 {
-	struct mbuf *mbuf = (struct mbuf *)kmem_intr_zalloc(sizeof(*mbuf), how == M_DONTWAIT ? KM_NOSLEEP : KM_SLEEP);
+	struct mbuf *mbuf = (struct mbuf *)(kmem_intr_zalloc)(sizeof(*mbuf), how == M_DONTWAIT ? KM_NOSLEEP : KM_SLEEP);
 	(void)type;
 	if (mbuf == NULL)
 		return NULL;
@@ -54,16 +54,22 @@ static inline struct mbuf *m_gethdr(int how, int type)
 static inline struct mbuf *m_free(struct mbuf *mbuf)
 {
 	struct mbuf *next = mbuf->m_next;
-	kmem_intr_free(mbuf, sizeof(*mbuf));
+	(kmem_intr_free)(mbuf, sizeof(*mbuf));
 	atomic_dec_uint(&kupaldiz_mbufs);
 	return next;
 }
 
-static inline void m_freem(struct mbuf *mbuf)
+/* kupaldiz_m_freem, m_freem - free all of a chain. The second is a macro, too, which notes where it is. */
+static inline void kupaldiz_m_freem(struct mbuf *mbuf, const char *place)
 {
-	while (mbuf != NULL)
+	while (mbuf != NULL) {
+		kupaldiz_at(place);
 		mbuf = m_free(mbuf);
+	}
 }
+
+static inline void m_freem(struct mbuf *mbuf) { kupaldiz_m_freem(mbuf, NULL); }
+#define m_freem(mbuf)	kupaldiz_m_freem(mbuf, KUPALDIZ_HERE)
 
 static inline int m_length(const struct mbuf *mbuf)
 {
@@ -72,6 +78,9 @@ static inline int m_length(const struct mbuf *mbuf)
 		length += mbuf->m_len;
 	return length;
 }
+
+#define KUPALDIZ_PLACES_OF_MBUF
+#include "../kupaldiz/places.h"
 
 __END_DECLS
 

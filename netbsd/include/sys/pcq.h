@@ -22,13 +22,13 @@ static inline size_t kupaldiz_pcq_size(size_t items) { return sizeof(pcq_t) + it
 /* pcq_create - a queue for so many items at most, one less than it has places. */
 static inline pcq_t *pcq_create(size_t items, km_flag_t flags)
 {
-	pcq_t *pcq = (pcq_t *)kmem_zalloc(kupaldiz_pcq_size(items + 1), flags);
+	pcq_t *pcq = (pcq_t *)(kmem_zalloc)(kupaldiz_pcq_size(items + 1), flags);
 	if (pcq != NULL)
 		pcq->pcq_items = (uint32_t)items + 1;
 	return pcq;
 }
 
-static inline void pcq_destroy(pcq_t *pcq) { kmem_free(pcq, kupaldiz_pcq_size(pcq->pcq_items)); }
+static inline void pcq_destroy(pcq_t *pcq) { (kmem_free)(pcq, kupaldiz_pcq_size(pcq->pcq_items)); }
 static inline size_t pcq_maxitems(pcq_t *pcq) { return pcq->pcq_items - 1; }
 
 /* pcq_put - whether there was room. */
@@ -67,6 +67,9 @@ static inline void *pcq_get(pcq_t *pcq)
 	while (atomic_cas_32(&pcq->pcq_ends, ends, (ends & 0xffff0000) | (got + 1 == pcq->pcq_items ? 0 : got + 1)) != ends);
 	return item;
 }
+
+#define KUPALDIZ_PLACES_OF_PCQ
+#include "../kupaldiz/places.h"
 
 __END_DECLS
 

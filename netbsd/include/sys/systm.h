@@ -69,13 +69,16 @@ static inline void *hashinit(unsigned elements, enum hashtype type, bool waits, 
 	while (lists < elements)
 		lists <<= 1;
 	*mask = lists - 1;
-	void **table = (void **)kmem_zalloc(kupaldiz_hash_size(type, *mask), waits ? KM_SLEEP : KM_NOSLEEP);
+	void **table = (void **)(kmem_zalloc)(kupaldiz_hash_size(type, *mask), waits ? KM_SLEEP : KM_NOSLEEP);
 	for (unsigned long at = 0; table != NULL && type == HASH_TAILQ && at < lists; at++)
 		table[2 * at + 1] = &table[2 * at];
 	return table;
 }
 
-static inline void hashdone(void *table, enum hashtype type, unsigned long mask) { kmem_free(table, kupaldiz_hash_size(type, mask)); }
+static inline void hashdone(void *table, enum hashtype type, unsigned long mask) { (kmem_free)(table, kupaldiz_hash_size(type, mask)); }
+
+#define KUPALDIZ_PLACES_OF_SYSTM
+#include "../kupaldiz/places.h"
 
 /* log, aprint_normal and its like - print on standard error; in the explorer, nothing. */
 static inline void __attribute__((format(printf, 2, 3))) kupaldiz_log(int level, const char *format, ...)
