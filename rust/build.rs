@@ -39,10 +39,14 @@ fn main() {
     let target = |what: &str| env::var(format!("CARGO_CFG_TARGET_{what}")).unwrap_or_default();
     let built_for = [("linux", "gnu", "x86_64"), ("linux", "gnu", "aarch64")];
     if !built_for.contains(&(&target("OS"), &target("ENV"), &target("ARCH"))) {
-        println!("cargo:warning=the archive is built for Linux on x86-64 and aarch64 with glibc alone: here the crate is only checked");
+        println!(
+            "cargo:warning=the archive is built for Linux on x86-64 and aarch64 with glibc alone: \
+             here the crate is only checked"
+        );
     } else if !found.path().exists() {
         println!(
-            "cargo:warning=there is no {}: tools/build-archive.sh makes it, a release has it, and KUPALDIZ_LIB_DIR names another folder that has it",
+            "cargo:warning=there is no {}: tools/build-archive.sh makes it, a release has it, and \
+             KUPALDIZ_LIB_DIR names another folder that has it",
             found.path().display()
         );
     }

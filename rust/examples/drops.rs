@@ -49,7 +49,8 @@ fn run(registry: &Registry<u64>, cpu: &Cpu<u64>, count: u64) -> Result<(), Box<d
         each(took)
     );
     let began = Instant::now();
-    LocalRef::release(ReadGuard::acquire_local(&found)?, cpu); // it takes all that wait for this entry
+    // It takes all that wait for this entry.
+    LocalRef::release(ReadGuard::acquire_local(&found)?, cpu);
     println!(
         "all: each {:.1} ns, {} KiB more",
         each(began.elapsed().as_nanos() as u64),

@@ -55,8 +55,7 @@ fn main() -> Result<(), Box<dyn Error>> {
     held.given.destroy(Patience::Forever)?;
     worker.join().expect("it doesn't panic");
     drop(drained.freed);
-    let closed = registry.close(Duration::from_secs(60));
-    closed.map_err(|open| open.to_string())?;
+    registry.close(Duration::from_secs(60))?;
     println!("closed, and {} devices were written", to_write.iter().count());
     Ok(())
 }

@@ -36,7 +36,8 @@ impl<T> Registry<T> {
     /// Attaches an interface that carries this value, as [`attach`](Registry::attach) does, on the
     /// live driver with the name `driver`. The interface's slot keeps a local reference, so the
     /// driver outlives the interface, and so does what each carries: the driver's value is neither
-    /// returned nor dropped before the interface's was.
+    /// returned nor dropped before the interface's was. So the drop of an interface's value can't
+    /// wait until its driver is freed.
     ///
     /// ```
     /// use kupaldiz::{Kind, Patience, Registry, Settings};

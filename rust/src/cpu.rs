@@ -171,14 +171,18 @@ impl<T> Cpu<T> {
 
     #[cold]
     fn wake_noted(&self, tasks: &Tasks<Until>) {
-        tasks.wake(|number, until| {
-            let is_on = match until {
-                Until::Exit(_) => self.is_inside(),
-                Until::Release(_) => self.holds(number),
-                Until::Local(_) | Until::Any => false,
-            };
-            until.is_of_cpu(self.id) && !is_on
-        });
+        tasks.wake(|number, until| self.lets_go(number, *until));
+    }
+
+    /// Whether this CPU doesn't hold, or holds no more, what a task waits for that awaits the entry
+    /// with this number.
+    pub(crate) fn lets_go(&self, number: u64, until: Until) -> bool {
+        match until {
+            Until::Exit(cpu) => cpu == self.id && !self.is_inside(),
+            Until::Release(cpu) => cpu == self.id && !self.holds(number),
+            Until::Local(_) => false,
+            Until::Any => true,
+        }
     }
 
     /// Local references to the entries in these slots were let go: tasks are woken, or are owed it.
@@ -318,13 +322,16 @@ impl<T> AsRef<Cpu<T>> for Cpu<T> {
 impl<T> Drop for Cpu<T> {
     /// Leaves, and goes back to its registry. What it refers to passively by then was forgotten,
     /// and stays held. It wakes all tasks: as CPUs go, a task of a runtime that is gone goes, too.
+    /// As a CPU goes that the crate has chosen, its seats wake them.
     fn drop(&mut self) {
         self.exit_all();
         self.release_all();
         let handle = mem::replace(self.handle.get_mut(), ffi::Cpu::EMPTY);
         // SAFETY: it is this CPU's, which is gone.
         unsafe { self.shared().put_cpu(self.id, handle) };
-        self.tasks().wake(|_, _| true);
+        if self.owed.take().is_none() {
+            self.tasks().wake(|_, _| true);
+        }
     }
 }
 

@@ -2,6 +2,7 @@
 //! any of them.
 
 use crate::ffi;
+use crate::name::NameError;
 use crate::values::Holder;
 use std::error::Error;
 use std::fmt;
@@ -55,6 +56,8 @@ pub enum RegistryError {
     StillHeld(Holder),
     /// The section of this CPU wasn't seen to have ended.
     Waiting(u8),
+    /// Another handle of the registry exists.
+    StillOpen,
 }
 
 /// The error of [`Registry::open`](crate::Registry::open).
@@ -136,6 +139,15 @@ pub enum SynchronizeError {
 pub enum CpusError {
     OtherRegistry,
     MissingCpu,
+}
+
+/// The error of [`Registry::close`](crate::Registry::close). It comes with the registry:
+/// [`Refused`].
+#[derive(Clone, Copy, Debug, PartialEq, Eq, Hash)]
+#[allow(missing_docs)]
+#[non_exhaustive]
+pub enum CloseError {
+    StillOpen,
 }
 
 impl OpenError {
@@ -269,11 +281,23 @@ impl From<CpusError> for RegistryError {
     }
 }
 
+impl From<CloseError> for RegistryError {
+    fn from(_: CloseError) -> Self {
+        Self::StillOpen
+    }
+}
+
+impl From<NameError> for RegistryError {
+    fn from(_: NameError) -> Self {
+        Self::BadName
+    }
+}
+
 impl RegistryError {
     /// The number of the error in kupaldiz.h, or 0 of what is this crate's own.
     fn number(self) -> u32 {
         match self {
-            Self::OtherRegistry | Self::OtherVersion | Self::NoCpu => 0,
+            Self::OtherRegistry | Self::OtherVersion | Self::NoCpu | Self::StillOpen => 0,
             Self::NoMemory => ffi::NO_MEMORY,
             Self::BadSettings => ffi::BAD_SETTINGS,
             Self::BadName => ffi::BAD_NAME,
@@ -301,6 +325,7 @@ impl fmt::Display for RegistryError {
             Self::OtherRegistry => "the CPU is of another registry",
             Self::OtherVersion => "the library is of another version than the crate",
             Self::NoCpu => "the program has taken every CPU of the registry",
+            Self::StillOpen => "the registry has another handle",
             Self::BadName => "a name has 1 to 16 bytes that aren't all 0",
             Self::StillHeld(holder) => return write!(f, "{}: {holder}", text(ffi::STILL_HELD)),
             Self::Waiting(cpu) => return Holder::Grace(*cpu).fmt(f),
@@ -322,7 +347,8 @@ macro_rules! shown {
     )*};
 }
 
-shown!(OpenError LookUpError AttachError DetachError DestroyError SynchronizeError CpusError);
+shown!(OpenError LookUpError AttachError DetachError DestroyError);
+shown!(SynchronizeError CpusError CloseError);
 
 impl Error for RegistryError {}
 
@@ -350,10 +376,10 @@ pub(crate) fn text(answer: u32) -> &'static str {
 }
 
 /// The error of a call that takes a value, together with that value, unchanged: what an attach was
-/// given, or the [`Retired`](crate::Retired) of a destroy. It will have no other field, so a caller
-/// may take it apart. The text of a destroy's error names the first obstacle, and in a registry
-/// that was opened by [`Registry::open_tracked`](crate::Registry::open_tracked) each line that
-/// holds the entry.
+/// given, the [`Retired`](crate::Retired) of a destroy, or the registry of a close. It will have no
+/// other field, so a caller may take it apart. The text of a destroy's error names the first
+/// obstacle, and in a registry that was opened by
+/// [`Registry::open_tracked`](crate::Registry::open_tracked) each line that holds the entry.
 ///
 /// In a function that returns a [`RegistryError`], `?` converts it, and drops what was given. If
 /// the error must be `Send` and `'static`, such as a boxed error, `RegistryError::from` converts it
@@ -384,6 +410,8 @@ pub trait ShownWith<G>: Error {
 }
 
 impl<G> ShownWith<G> for AttachError {}
+
+impl<G> ShownWith<G> for CloseError {}
 
 impl<E: fmt::Debug, G> fmt::Debug for Refused<E, G> {
     fn fmt(&self, f: &mut fmt::Formatter<'_>) -> fmt::Result {

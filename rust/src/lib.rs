@@ -89,25 +89,26 @@
 //! | nothing more, or no detach | dropping the registry's last handle drops it |
 //!
 //! A driver's `T` is returned or dropped only after those of its interfaces: as long as one of
-//! these is in the registry, or waits for its [`Retired`], the driver is [still
-//! held](DestroyError::StillHeld). So a driver may carry a library, and an interface an object
-//! whose drop is code of that library.
+//! these is in the registry, waits for its [`Retired`], or is being dropped by a call, the driver
+//! is [still held](DestroyError::StillHeld). So a driver may carry a library, and an interface an
+//! object whose drop is code of that library. What was returned is yours: drop it before the
+//! library.
 //!
 //! # Your code in a call
 //!
-//! A call may drop others' `T`s, and wake others' tasks. It does so last, when it holds no lock and
+//! A call may drop others' `T`s, and wake others' tasks. It does so when it holds no lock and
 //! nothing is half done, so that code may make any call. But under a lock that it takes, don't make
 //! the call:
 //!
 //! | Code of yours | The calls that run it |
 //! |---|---|
-//! | the drop of a `T` | a drop of a [`Retired`] or of what has one, [`Retired::defer`], the drop of a registry's last handle |
-//! | a waker of a task that awaits a [`Retired`] | what lets its entry go: the exit of a section, a drop or a release of a reference, a lookup's end; a call that frees an interface, for the tasks of its driver; a call that releases local references that [were dropped](LocalRef#dropped-without-a-cpu), such as an attach or a detach, for the tasks of their entry |
+//! | the drop of a `T` | a drop of a [`Retired`] or of what has one, [`Retired::defer`]; what drops or spends a registry's last handle, such as a close or a destroy |
+//! | a waker of a task that awaits a [`Retired`] | what lets its entry go: the exit of a section, a drop or a release of a reference, a lookup's end; a call that frees an interface, for the tasks of its driver; a call that releases local references that [were dropped](LocalRef#dropped-without-a-cpu), such as an attach or a detach, for the tasks of their entry; the drop of a [`Cpu`], or of the last [`Registry`], for all tasks |
 //! | a waker of a task that awaits a CPU | a drop of a [`LentCpu`] |
 //!
-//! A task is woken only if what held its entry is let go. If a waker panics, the call that called
-//! it goes on, and so do the other tasks; only the panic's hook tells of it. If the drop of a `T`
-//! panics, the call panics, once it has dropped the other `T`s.
+//! Otherwise a task is woken only if what held its entry is let go. If a waker panics, the call
+//! that called it goes on, and so do the other tasks; only the panic's hook tells of it. If the
+//! drop of a `T` panics, the call panics, once it has dropped the other `T`s.
 //!
 //! # What is forgotten
 //!
@@ -160,7 +161,7 @@
 //! it. That a program in mid-run is in a state that such a list leads to is assumed
 //! (docs/GUARANTEES.md of the repository). So is a caller that keeps the rules of kupaldiz.h.
 //!
-//! This crate isn't proved: it is tested. Some 80 blocks are `unsafe`: for the calls and the texts
+//! This crate isn't proved: it is tested. Some 90 blocks are `unsafe`: for the calls and the texts
 //! that they return; for the way from an entry to the `T`, and to a part of it; and where its own
 //! types move what they hold. Each says what makes it sound. A bug there can break memory safety.
 //!
@@ -202,15 +203,15 @@ mod tasks;
 mod values;
 
 pub use cpu::Cpu;
-pub use error::{AttachError, CpusError, DestroyError, DetachError, LookUpError, OpenError};
-pub use error::{Refused, RegistryError, SynchronizeError};
+pub use error::{AttachError, CloseError, CpusError, DestroyError, DetachError, LookUpError};
+pub use error::{OpenError, Refused, RegistryError, SynchronizeError};
 pub use mapped::Mapped;
 pub use name::{Key, Name, NameError};
 pub use patience::Patience;
 pub use places::{Hold, Holders, Place};
 pub use pool::{CpuPool, LentCpu};
 pub use references::{LocalRef, Passive, PassiveRc, PassiveRef};
-pub use registry::{Drained, Registry, StillOpen};
+pub use registry::{Drained, Registry};
 pub use retired::{Destroyed, Retired};
 pub use section::{Entries, Found, ReadGuard, Section};
 pub use settings::{version, Limits, Settings, LIMITS};

@@ -23,7 +23,7 @@ use std::str::{self, FromStr};
 /// assert_eq!(Name::from(7).id(), Some(7));
 ///
 /// let loopback = Name::try_from(&[127, 0, 0, 1][..]).unwrap();
-/// assert_eq!((loopback.as_bytes(), loopback.as_str()), (&[127, 0, 0, 1][..], Some("\u{7f}\0\0\u{1}")));
+/// assert_eq!(loopback.as_bytes(), [127, 0, 0, 1]);
 /// ```
 #[derive(Clone, Copy, PartialEq, Eq, Hash, PartialOrd, Ord)]
 pub struct Name {
@@ -205,8 +205,9 @@ impl fmt::Debug for Name {
 /// let registry = Registry::open(Settings::new(1, 3)).unwrap();
 /// registry.attach("wm", 7).unwrap();
 /// registry.attach_iface("wm", "wm0", 8).unwrap();
-/// registry.attach(42, 9).unwrap();
-/// assert_eq!((*registry.get("wm").unwrap(), *registry.get((Kind::Iface, "wm0")).unwrap()), (7, 8));
+/// registry.attach(&[127, 0, 0, 1], 9).unwrap();
+/// let [one, two] = [registry.get("wm"), registry.get((Kind::Iface, &String::from("wm0")))];
+/// assert_eq!((*one.unwrap(), *two.unwrap(), *registry.get(b"\x7f\0\0\x01").unwrap()), (7, 8, 9));
 /// ```
 #[derive(Clone, Copy, Debug, PartialEq, Eq, Hash)]
 pub struct Key {
@@ -239,6 +240,18 @@ impl From<&[u8]> for Key {
     fn from(bytes: &[u8]) -> Key {
         let words = Name::from_bytes(bytes).map_or(ffi::Name::default(), |name| name.words);
         Key { kind: Kind::Driver, words }
+    }
+}
+
+impl From<&String> for Key {
+    fn from(text: &String) -> Key {
+        Key::from(text.as_bytes())
+    }
+}
+
+impl<const LENGTH: usize> From<&[u8; LENGTH]> for Key {
+    fn from(bytes: &[u8; LENGTH]) -> Key {
+        Key::from(&bytes[..])
     }
 }
 

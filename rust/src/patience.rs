@@ -13,6 +13,21 @@ use std::time::{Duration, Instant};
 ///    microseconds. If a reader's thread runs, its section is over by then.
 /// 2. It yields 8 times: the reader's thread may wait for this processor.
 /// 3. It sleeps, for 16 microseconds at first, twice as long each time, 8 milliseconds at most.
+///
+/// ```
+/// use kupaldiz::{Patience, Registry, Settings};
+/// use std::time::{Duration, Instant};
+///
+/// let registry = Registry::open(Settings::new(1, 1)).unwrap();
+/// registry.attach("wm", 7).unwrap();
+/// let held = registry.get("wm").unwrap();
+/// let retired = registry.detach("wm").unwrap();
+/// let retired = retired.destroy(Patience::Turns(2)).unwrap_err().given; // tries twice
+/// let retired = retired.destroy(Duration::from_millis(2)).unwrap_err().given;
+/// let retired = retired.destroy(Instant::now()).unwrap_err().given; // tries once
+/// drop(held);
+/// assert_eq!(retired.destroy(Patience::Forever).unwrap().value, 7);
+/// ```
 #[derive(Clone, Copy, Debug, PartialEq, Eq, Hash)]
 #[non_exhaustive]
 pub enum Patience {

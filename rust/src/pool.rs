@@ -3,7 +3,6 @@
 use crate::cpu::Cpu;
 use crate::error::CpusError;
 use crate::lock::{locked, Mutex, MutexGuard};
-use crate::shared::Shared;
 use crate::tasks::Tasks;
 use std::fmt;
 use std::future::Future;
@@ -12,7 +11,7 @@ use std::ops::Deref;
 use std::panic::Location;
 use std::pin::Pin;
 use std::sync::atomic::{AtomicU64, Ordering};
-use std::sync::{Arc, Condvar, PoisonError};
+use std::sync::{Condvar, PoisonError};
 use std::task::{Context, Poll};
 use std::thread::{self, ThreadId};
 use std::time::Instant;
@@ -46,8 +45,6 @@ pub struct CpuPool<T> {
     tasks: Tasks<()>,
     /// How many futures there were: the key of the next.
     futures: AtomicU64,
-    /// The registry.
-    shared: Arc<Shared<T>>,
 }
 
 struct State<T> {
@@ -92,8 +89,8 @@ impl<T> CpuPool<T> {
     /// back to their registries then.
     pub fn new<C: IntoIterator<Item = Cpu<T>>>(cpus: C) -> Result<CpuPool<T>, CpusError> {
         let cpus: Vec<Cpu<T>> = cpus.into_iter().collect();
-        let shared = Arc::clone(cpus.first().ok_or(CpusError::MissingCpu)?.shared());
-        if !cpus.iter().all(|cpu| cpu.is_of(&shared)) {
+        let shared = cpus.first().ok_or(CpusError::MissingCpu)?.shared();
+        if !cpus.iter().all(|cpu| cpu.is_of(shared)) {
             return Err(CpusError::OtherRegistry);
         }
         Ok(CpuPool {
@@ -101,7 +98,6 @@ impl<T> CpuPool<T> {
             returned: Condvar::new(),
             tasks: Tasks::default(),
             futures: AtomicU64::new(0),
-            shared,
         })
     }
 
@@ -181,7 +177,8 @@ impl<T> CpuPool<T> {
 
 impl<T> fmt::Debug for CpuPool<T> {
     fn fmt(&self, f: &mut fmt::Formatter<'_>) -> fmt::Result {
-        f.debug_struct("CpuPool").field("idle", &self.state().idle.len()).finish()
+        let idle = self.state().idle.len(); // and no lock while somebody reads this
+        f.debug_struct("CpuPool").field("idle", &idle).finish()
     }
 }
 
@@ -250,17 +247,16 @@ impl<T> Deref for LentCpu<'_, T> {
 impl<T> Drop for LentCpu<'_, T> {
     fn drop(&mut self) {
         if let Some(mut cpu) = self.cpu.take() {
-            let (pool, id, was_inside) = (self.pool, cpu.id(), cpu.is_inside());
+            let (pool, id) = (self.pool, cpu.id());
             cpu.exit_all();
+            let meant = cpu.tasks().meant(|number, until| cpu.lets_go(number, *until));
             let mut state = pool.state();
             state.loans.retain(|loan| loan.cpu != id);
             state.idle.push(cpu);
             drop(state);
             pool.returned.notify_one();
             pool.tasks.wake(|_, ()| true);
-            if was_inside {
-                pool.shared.tasks.wake(|_, until| until.is_of_cpu(id));
-            }
+            meant.wake();
         }
     }
 }

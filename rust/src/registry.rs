@@ -1,8 +1,8 @@
 //! The registry: its opening, and the calls behind the interlock.
 
 use crate::cpu::Cpu;
-use crate::error::{checked, CpusError, DestroyError, DetachError, LookUpError, OpenError};
-use crate::error::{Refused, SynchronizeError};
+use crate::error::{checked, CloseError, CpusError, DestroyError, DetachError, LookUpError};
+use crate::error::{OpenError, Refused, SynchronizeError};
 use crate::ffi;
 use crate::lock::locked;
 use crate::patience::{Patience, Pauses};
@@ -14,7 +14,6 @@ use crate::settings::Settings;
 use crate::shared::Shared;
 use crate::values::{Balance, Entry, Freed};
 use crate::Key;
-use std::error::Error;
 use std::fmt;
 use std::hash::{Hash, Hasher};
 use std::panic::Location;
@@ -50,11 +49,22 @@ pub struct Registry<T> {
 impl<T> Registry<T> {
     /// A handle of this registry.
     pub(crate) fn of(shared: Arc<Shared<T>>) -> Registry<T> {
-        let mut known = locked(&shared.seats);
-        let seats = known.upgrade().unwrap_or_else(|| Arc::new(Seats::new(Arc::clone(&shared))));
-        *known = Arc::downgrade(&seats);
-        drop(known);
-        Registry { seats }
+        let mut pauses = Pauses::new(Patience::Forever);
+        loop {
+            let mut known = locked(&shared.seats);
+            let seats = match &*known {
+                None => Some(Arc::new(Seats::new(Arc::clone(&shared)))),
+                Some(seats) => seats.upgrade(),
+            };
+            if let Some(seats) = seats {
+                *known = Some(Arc::downgrade(&seats));
+                drop(known);
+                return Registry { seats };
+            }
+            // The last handle is going, and gives the CPUs back that lay there.
+            drop(known);
+            pauses.another();
+        }
     }
 
     pub(crate) fn shared(&self) -> &Arc<Shared<T>> {
@@ -131,8 +141,8 @@ impl<T> Registry<T> {
         self.shared().settings
     }
 
-    /// The CPU with this number, if nobody has it. It still has the passive references that were
-    /// forgotten on it.
+    /// The CPU with this number, if nobody has it. If a call of another thread has chosen it, this
+    /// waits until that call ends. It still has the passive references that were forgotten on it.
     #[must_use]
     pub fn cpu(&self, id: u8) -> Option<Cpu<T>> {
         self.seats.unseat(id)
@@ -348,11 +358,26 @@ impl<T> Registry<T> {
     /// then it waits as long as the patience says. If several handles are closed at once, one
     /// of these calls closes the registry, and the others return when it is closed.
     ///
+    /// ```
+    /// use kupaldiz::{Patience, Registry, Settings};
+    ///
+    /// let registry = Registry::open(Settings::new(1, 1)).unwrap();
+    /// registry.attach("wm", 7).unwrap();
+    /// let held = registry.get("wm").unwrap();
+    /// let refused = registry.close(Patience::Turns(3)).unwrap_err();
+    /// assert_eq!(refused.to_string(), "the registry has another handle");
+    /// drop(held);
+    /// refused.given.close(Patience::Forever).unwrap();
+    /// ```
+    ///
     /// # Errors
     ///
-    /// [`StillOpen`], if another handle exists: a `Registry`, a [`Cpu`], a
-    /// [`LocalRef`](crate::LocalRef) or a [`Retired`].
-    pub fn close(self, patience: impl Into<Patience>) -> Result<(), StillOpen<T>> {
+    /// `StillOpen`, if another handle exists: a `Registry`, a [`Cpu`], a
+    /// [`LocalRef`](crate::LocalRef) or a [`Retired`]. The registry is returned.
+    pub fn close(
+        self,
+        patience: impl Into<Patience>,
+    ) -> Result<(), Refused<CloseError, Registry<T>>> {
         let (mut seats, mut pauses) = (self.seats, Pauses::new(patience.into()));
         if seats.shared.end.closing.is_awaited.swap(true, Ordering::SeqCst) {
             return Registry::close_beside(seats, pauses);
@@ -370,20 +395,23 @@ impl<T> Registry<T> {
             };
             if !pauses.another() {
                 seats.shared.end.closing.is_awaited.store(false, Ordering::SeqCst);
-                return Err(StillOpen { registry: Registry { seats } });
+                return Err(still_open(Registry { seats }));
             }
         }
     }
 
     /// Waits beside another close, which would wait for this handle: so it is none meanwhile.
-    fn close_beside(seats: Arc<Seats<T>>, mut pauses: Pauses) -> Result<(), StillOpen<T>> {
+    fn close_beside(
+        seats: Arc<Seats<T>>,
+        mut pauses: Pauses,
+    ) -> Result<(), Refused<CloseError, Registry<T>>> {
         let closing = Arc::clone(&seats.shared.end.closing);
         let open = Arc::downgrade(&seats.shared);
         drop(seats);
         while !closing.is_closed.load(Ordering::SeqCst) {
             if !pauses.another() {
                 if let Some(registry) = open.upgrade().map(Registry::of) {
-                    return Err(StillOpen { registry });
+                    return Err(still_open(registry));
                 }
                 // It is being closed.
                 pauses = Pauses::new(Patience::Forever);
@@ -408,25 +436,9 @@ impl<T> fmt::Debug for Drained<T> {
     }
 }
 
-/// The error of [`Registry::close`], together with the registry: another handle of it exists.
-pub struct StillOpen<T> {
-    /// The registry.
-    pub registry: Registry<T>,
+fn still_open<T>(given: Registry<T>) -> Refused<CloseError, Registry<T>> {
+    Refused { refusal: CloseError::StillOpen, given }
 }
-
-impl<T> fmt::Debug for StillOpen<T> {
-    fn fmt(&self, f: &mut fmt::Formatter<'_>) -> fmt::Result {
-        f.debug_struct("StillOpen").field("registry", &self.registry).finish()
-    }
-}
-
-impl<T> fmt::Display for StillOpen<T> {
-    fn fmt(&self, f: &mut fmt::Formatter<'_>) -> fmt::Result {
-        f.write_str("the registry has another handle")
-    }
-}
-
-impl<T> Error for StillOpen<T> {}
 
 impl<T> Clone for Registry<T> {
     fn clone(&self) -> Registry<T> {

@@ -6,7 +6,7 @@ use crate::error::{text, DestroyError, Refused, ShownWith};
 use crate::ffi;
 use crate::patience::{Patience, Pauses};
 use crate::registry::Registry;
-use crate::shared::Shared;
+use crate::shared::{Fate, Shared};
 use crate::tasks::Until;
 use crate::values::{Entry, Freed, Holder, Met};
 use std::fmt;
@@ -155,7 +155,7 @@ impl<T> Retired<T> {
         }
         let (mut pauses, entry) = (Pauses::new(patience), self.plain());
         loop {
-            let refusal = match self.shared().turn(entry).map_err(Met::refusal) {
+            let refusal = match self.shared().turn(entry, Fate::Returned).map_err(Met::refusal) {
                 Err(refusal) => refusal,
                 Ok(freed) => return Ok(freed),
             };
@@ -174,7 +174,7 @@ impl<T> Retired<T> {
     /// One turn. What it freed goes to `after`, or to `settle`.
     #[inline(always)]
     fn turn(&self) -> Result<Freed<T>, DestroyError> {
-        self.shared().turn(self.plain()).map_err(Met::refusal)
+        self.shared().turn(self.plain(), Fate::Returned).map_err(Met::refusal)
     }
 
     /// What a call returns that ended so.
@@ -204,7 +204,10 @@ impl<T> Retired<T> {
     /// Defers it, and returns what is free.
     pub(crate) fn deferred(mut self) -> Vec<Freed<T>> {
         let entry = self.plain();
-        self.shared.take().map_or_else(Vec::new, |shared| shared.defer(entry))
+        self.shared.take().map_or_else(Vec::new, |shared| {
+            shared.defer(entry);
+            shared.collect()
+        })
     }
 }
 
@@ -240,7 +243,8 @@ impl<T> Drop for Retired<T> {
     /// Defers it, unless its value was taken.
     fn drop(&mut self) {
         if let Some(shared) = &self.shared {
-            drop(shared.defer(self.plain()));
+            shared.defer(self.plain());
+            shared.drop_deferred();
         }
     }
 }

@@ -5,6 +5,7 @@
 //! CPUs take each its own, and write no word of each other's.
 
 use crate::cpu::Cpu;
+use crate::lock::locked;
 use crate::patience::{Patience, Pauses};
 use crate::shared::Shared;
 use std::cell::Cell;
@@ -53,6 +54,11 @@ impl<T> Seat<T> {
     fn put(&self, cpu: Box<Cpu<T>>) {
         self.0.store(Box::into_raw(cpu), Ordering::Release);
     }
+
+    /// Whether nothing lies here, and no call has what did.
+    fn is_empty(&self) -> bool {
+        self.0.load(Ordering::Relaxed).is_null()
+    }
 }
 
 impl<T> Seats<T> {
@@ -61,15 +67,21 @@ impl<T> Seats<T> {
         Seats { seats: (0..shared.settings.all_cpus()).map(seat).collect(), shared }
     }
 
-    /// The CPU with this number, if nobody has it, for the caller to keep.
+    /// The CPU with this number, if nobody has it, for the caller to keep. If a call has it, this
+    /// waits until it is back.
     pub fn unseat(&self, id: u8) -> Option<Cpu<T>> {
-        if id >= self.shared.settings.cpus {
-            return None;
+        let own = usize::from(self.shared.settings.cpus);
+        let (seat, mut pauses) =
+            (self.seats[..own].get(usize::from(id))?, Pauses::new(Patience::Forever));
+        loop {
+            let seated = || seat.take(ptr::null_mut()).map(|cpu| *cpu);
+            let found = Cpu::spare(&self.shared, id).or_else(seated);
+            if found.is_some() || seat.is_empty() {
+                found.iter().for_each(|cpu| cpu.owed.set(None));
+                return found;
+            }
+            pauses.another();
         }
-        let cpu = Cpu::spare(&self.shared, id)
-            .or_else(|| Some(*self.seats.get(usize::from(id))?.take(ptr::null_mut())?))?;
-        cpu.owed.set(None);
-        Some(cpu)
     }
 
     /// Does this on a CPU that no call has, and waits for one if each is in a call. The tasks that
@@ -109,7 +121,7 @@ impl<T> Seats<T> {
                 let _ = BEGIN.try_with(|begin| begin.set(usize::from(cpu.id())));
                 return Some(Seated { seats: self, cpu: Some(cpu) });
             }
-            if self.seats.iter().all(|seat| seat.0.load(Ordering::Relaxed).is_null()) {
+            if self.seats.iter().all(Seat::is_empty) {
                 return None;
             }
             pauses.another();
@@ -136,8 +148,15 @@ impl<T> Seats<T> {
 }
 
 impl<T> Drop for Seats<T> {
+    /// Gives all CPUs back. Then the registry may have other seats; and at last, if there was any,
+    /// all tasks are woken.
     fn drop(&mut self) {
-        self.seats.iter().for_each(|seat| drop(seat.take(ptr::null_mut())));
+        let cpus = self.seats.iter().filter_map(|seat| seat.take(ptr::null_mut()));
+        let given_back = cpus.map(drop).count();
+        *locked(&self.shared.seats) = None;
+        if given_back > 0 {
+            self.shared.tasks.wake(|_, _| true);
+        }
     }
 }
 
@@ -152,11 +171,12 @@ impl<T> Drop for Seated<'_, T> {
     #[inline]
     fn drop(&mut self) {
         if let Some(cpu) = self.cpu.take() {
-            let (id, slots) = (cpu.id(), cpu.owed.replace(Some(Vec::new())).unwrap_or_default());
-            self.seats.seats[usize::from(id)].put(cpu);
-            self.seats.shared.tasks.wake(|_, until| {
-                until.is_of_cpu(id) || until.is_local(|slot| slots.contains(&slot))
+            let slots = cpu.owed.replace(Some(Vec::new())).unwrap_or_default();
+            let meant = self.seats.shared.tasks.meant(|number, until| {
+                cpu.lets_go(number, *until) || until.is_local(|slot| slots.contains(&slot))
             });
+            self.seats.seats[usize::from(cpu.id())].put(cpu);
+            meant.wake();
         }
     }
 }
@@ -165,6 +185,7 @@ impl<T> Drop for Seated<'_, T> {
 mod tests {
     use crate::tasks::Until;
     use crate::{Registry, Settings};
+    use std::mem;
     use std::sync::mpsc::{channel, Sender};
     use std::sync::{Arc, Mutex};
     use std::task::Wake;
@@ -183,20 +204,26 @@ mod tests {
     #[test]
     fn a_task_is_woken_once_the_cpu_is_back() {
         let (registry, (to, from)) = (Registry::open(Settings::new(1, 2)).unwrap(), channel());
-        registry.attach("wm", 7).unwrap();
+        let number = registry.attach("wm", 7).unwrap().number;
         let _mine = registry.cpu(0);
         let waker = Arc::new(Gets(registry.clone(), Mutex::new(to))).into();
-        for until in [Until::Local(5), Until::Exit(1), Until::Local(4)] {
-            registry.shared().tasks.note(9, until, &waker);
+        registry.seats.with(|cpu| mem::forget(cpu.get("wm").unwrap()));
+        for (key, until, is_woken) in [
+            (9, Until::Local(5), true),
+            (9, Until::Exit(1), true),
+            (9, Until::Release(1), true),
+            (9, Until::Local(4), false),
+            (number, Until::Release(1), false),
+        ] {
+            registry.shared().tasks.note(key, until, &waker);
             let with = registry.seats.with(|cpu| {
                 cpu.let_go(&[5]);
                 cpu.wake(cpu.tasks());
                 from.try_recv().is_err()
             });
             assert_eq!(with, Some(true));
-            let woken = from.try_recv().ok();
-            assert!(woken == Some(Some(7)).filter(|_| until != Until::Local(4)));
+            assert_eq!(from.try_recv().ok(), is_woken.then_some(Some(7)));
+            registry.shared().tasks.forget(key);
         }
-        registry.shared().tasks.forget(9);
     }
 }

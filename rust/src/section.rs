@@ -62,7 +62,7 @@ impl<'cpu, T> Section<'cpu, T> {
     /// }
     /// let cpu = registry.any_cpu().unwrap();
     /// let section = cpu.enter().unwrap();
-    /// let names: Vec<String> = section.entries().map(|found| Found::entry(&found).name.to_string()).collect();
+    /// let names: Vec<_> = section.entries().map(|found| Found::entry(&found).name).collect();
     /// assert_eq!(names, ["ixl", "bge", "wm"]);
     /// let fast = section.entries().find(|found| **found > 10_000).unwrap();
     /// let fast = Found::acquire(&fast).unwrap();

@@ -5,13 +5,14 @@
 //! `T`: foreign.rs has the rule.
 //!
 //! A driver outlives its interfaces: not only its slot, but its value, too. The value of a driver
-//! stays in its row as long as that of an interface on it has a row, and at the closing the younger
-//! value is dropped first.
+//! stays in its row as long as that of an interface on it has a row or is being dropped, and at the
+//! closing the younger value is dropped first.
 
 use crate::basket::Baskets;
 use crate::carried::{Carried, Plain};
 use crate::error::{checked, OpenError};
 use crate::ffi;
+use crate::foreign::FirstPanic;
 use crate::lock::{locked, locked_mut, Mutex, MutexGuard};
 use crate::name::Key;
 use crate::places::Notes;
@@ -34,6 +35,8 @@ pub struct Kept<T> {
     rows: Vec<Row<T>>,
     /// The entries without a token, whose values go to later calls.
     pub deferred: Vec<Plain>,
+    /// The interfaces whose values a call is dropping, each with its driver.
+    dropping: Vec<(u64, u64)>,
 }
 
 /// An entry, by its number.
@@ -54,6 +57,14 @@ enum State {
     Freed,
 }
 
+/// What comes of the value of an entry that a turn frees.
+#[derive(Clone, Copy, PartialEq, Eq)]
+pub(crate) enum Fate {
+    Returned,
+    /// The call drops it. Until then it holds its driver.
+    Dropped,
+}
+
 /// One registry. Its handles own it together: it is closed as the last of them goes.
 pub struct Shared<T> {
     /// The interlock.
@@ -62,8 +73,9 @@ pub struct Shared<T> {
     waiting: AtomicUsize,
     /// The handle of each CPU that nobody has; the others are empty.
     spare: Mutex<Vec<ffi::Cpu>>,
-    /// Where the CPUs lie that the crate chooses among.
-    pub seats: Mutex<Weak<Seats<T>>>,
+    /// Where the CPUs lie that the crate chooses among, from the first `Registry` handle until the
+    /// last one has given them back.
+    pub seats: Mutex<Option<Weak<Seats<T>>>>,
     pub baskets: Baskets,
     /// The tasks that await an entry, each by the entry's number.
     pub tasks: Tasks<Until>,
@@ -170,11 +182,13 @@ impl<T> Kept<T> {
         Met { answer, met }
     }
 
-    /// Takes the row of an entry out, unless that of an interface on it is there.
+    /// Takes the row of an entry out, unless the value of an interface on it is there, or is being
+    /// dropped.
     /// Safety: a turn has freed the entry with this number, and the caller has its token, if it has
     /// one.
-    unsafe fn take(&mut self, number: u64) -> Result<Freed<T>, Met> {
-        let on_it = self.rows.iter().filter(|row| row.driver == Some(number)).count();
+    unsafe fn take(&mut self, number: u64, fate: Fate) -> Result<Freed<T>, Met> {
+        let on_it = self.rows.iter().filter(|row| row.driver == Some(number)).count()
+            + self.dropping.iter().filter(|(_, driver)| *driver == number).count();
         if on_it > 0 {
             self.set(number, State::Freed);
             return Err(Met::local(on_it as u64));
@@ -183,6 +197,9 @@ impl<T> Kept<T> {
         let place = self.rows.iter().position(|row| row.number == number).ok_or(Met::NOTHING)?;
         let row = self.rows.swap_remove(place);
         self.deferred.retain(|other| other.number != number);
+        if let (Fate::Dropped, Some(driver)) = (fate, row.driver) {
+            self.dropping.push((number, driver));
+        }
         let entry = row.plain().entry(self.id);
         debug_assert_eq!(entry.number, number, "the row's entry");
         // SAFETY: kupaldiz.h says of a destroy that is done: "on every CPU, now and later: no
@@ -222,10 +239,11 @@ impl<T> Shared<T> {
                 id,
                 rows: Vec::with_capacity(slots),
                 deferred: Vec::with_capacity(slots),
+                dropping: Vec::new(),
             }),
             waiting: AtomicUsize::new(0),
             spare: Mutex::new(cpus),
-            seats: Mutex::new(Weak::new()),
+            seats: Mutex::default(),
             baskets: Baskets::new(slots),
             tasks: Tasks::default(),
             notes: is_tracked.then(Mutex::default),
@@ -294,13 +312,13 @@ impl<T> Shared<T> {
     /// references hold it, those to it that were dropped are given up, and the turn is made once
     /// more. The caller has the entry's token, if it has one.
     #[inline(always)]
-    pub(crate) fn turn(&self, entry: Plain) -> Result<Freed<T>, Met> {
+    pub(crate) fn turn(&self, entry: Plain, fate: Fate) -> Result<Freed<T>, Met> {
         let mut kept = self.kept();
         let met = kept.turn(entry.number);
         let locals = met.locals();
         if met.is_gone() || locals.is_some() && self.baskets.has_any() {
             // SAFETY: the turn was just made.
-            return unsafe { self.go_on(kept, entry.number, entry.slot(), locals) };
+            return unsafe { self.go_on(kept, entry.number, entry.slot(), locals, fate) };
         }
         Err(met)
     }
@@ -316,6 +334,7 @@ impl<T> Shared<T> {
         number: u64,
         slot: usize,
         locals: Option<u64>,
+        fate: Fate,
     ) -> Result<Freed<T>, Met> {
         if let Some(held) = locals {
             if !self.give_up_dropped(&mut kept.keeper, slot) {
@@ -327,7 +346,7 @@ impl<T> Shared<T> {
             }
         }
         // SAFETY: the last turn freed it, or one before that.
-        let taken = unsafe { kept.take(number) };
+        let taken = unsafe { kept.take(number, fate) };
         self.note_waiting(&kept);
         taken
     }
@@ -336,28 +355,49 @@ impl<T> Shared<T> {
         self.waiting.store(kept.deferred.len(), Ordering::Relaxed);
     }
 
-    /// Takes a retired entry over from its token, and frees what nobody holds.
-    pub fn defer(&self, entry: Plain) -> Vec<Freed<T>> {
+    /// Takes a retired entry over from its token.
+    pub fn defer(&self, entry: Plain) {
         self.tasks.forget(entry.number);
         let mut kept = self.kept();
         kept.deferred.push(entry);
         self.note_waiting(&kept);
-        drop(kept);
-        self.collect()
     }
 
-    /// One turn for each deferred entry, the youngest first: an interface goes before its driver.
-    /// What they freed. The interlock is let go after each.
-    pub fn collect(&self) -> Vec<Freed<T>> {
+    /// The deferred entries, the youngest first: an interface goes before its driver.
+    fn deferred(&self) -> Vec<Plain> {
         if self.waiting.load(Ordering::Relaxed) == 0 {
             return Vec::new();
         }
         let mut entries = self.kept().deferred.clone();
         entries.sort_unstable_by_key(|entry| Reverse(entry.number));
-        let freed: Vec<Freed<T>> =
-            entries.into_iter().filter_map(|entry| self.turn(entry).ok()).collect();
+        entries
+    }
+
+    /// One turn for each deferred entry. What they freed. The interlock is let go after each.
+    pub fn collect(&self) -> Vec<Freed<T>> {
+        let entries = self.deferred().into_iter();
+        let freed: Vec<_> =
+            entries.filter_map(|entry| self.turn(entry, Fate::Returned).ok()).collect();
         freed.iter().for_each(|one| self.settle(&one.entry));
         freed
+    }
+
+    /// The same, and drops the value of each before the next turn; and all over again after that of
+    /// an interface, whose driver may be deferred since. A panic of one goes on once all are
+    /// dropped.
+    pub fn drop_deferred(&self) {
+        let (mut panic, mut again) = (FirstPanic::default(), true);
+        while mem::take(&mut again) {
+            for entry in self.deferred() {
+                if let Ok(Freed { entry, value }) = self.turn(entry, Fate::Dropped) {
+                    panic.run(|| drop(value));
+                    self.kept().dropping.retain(|(iface, _)| *iface != entry.number);
+                    self.settle(&entry);
+                    again |= entry.kind == Kind::Iface;
+                }
+            }
+        }
+        panic.go_on();
     }
 
     /// One turn for each retired entry, also one that has a token, the youngest first.

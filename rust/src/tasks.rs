@@ -1,7 +1,7 @@
 //! The tasks that wait, and what each waits for.
 
 use crate::foreign::quietly;
-use crate::lock::{locked, locked_mut, Mutex};
+use crate::lock::{locked, Mutex};
 use crate::values::Holder;
 use std::mem;
 use std::sync::atomic::{fence, AtomicBool, Ordering};
@@ -35,12 +35,13 @@ impl<U> Tasks<U> {
     pub fn note(&self, key: u64, until: U, waker: &Waker) {
         let waker = waker.clone();
         let mut waiting = locked(&self.waiting);
-        let older = taken(&mut waiting, |one| one.key == key);
+        let place = waiting.iter().position(|one| one.key == key);
+        let older = place.map(|place| waiting.remove(place));
         waiting.push(Waiting { key, until, waker });
         self.are_any.store(true, Ordering::SeqCst);
         fence(Ordering::SeqCst);
         drop(waiting);
-        older.into_iter().for_each(|one| quietly(|| drop(one)));
+        quietly(|| drop(older));
     }
 
     #[inline]
@@ -51,55 +52,58 @@ impl<U> Tasks<U> {
     /// Forgets a future that is done or dropped, if it is noted.
     #[inline]
     pub fn forget(&self, key: u64) {
-        if self.are_any() {
-            self.take(|one| one.key == key).into_iter().for_each(|one| quietly(|| drop(one)));
-        }
+        self.meant(|other, _| other == key).forget();
     }
 
-    /// Wakes those that wait for this, after it was let go: it is told the key, and what the future
-    /// waits for. Its caller has no lock, and leaves nothing half changed.
+    /// Wakes those that wait for this, after it was let go. Its caller has no lock, and leaves
+    /// nothing half changed.
     #[inline]
     pub fn wake(&self, is_meant: impl Fn(u64, &U) -> bool) {
-        if self.are_any() {
-            self.wake_noted(is_meant);
+        self.meant(is_meant).wake();
+    }
+
+    /// Takes those out that are meant, by their keys and what they wait for. The rest keep their
+    /// order.
+    #[inline]
+    pub fn meant(&self, is_meant: impl Fn(u64, &U) -> bool) -> Meant {
+        Meant(if self.are_any() { self.take(is_meant) } else { Vec::new() })
+    }
+
+    #[cold]
+    fn take(&self, is_meant: impl Fn(u64, &U) -> bool) -> Vec<Waker> {
+        let (mut waiting, is_meant) =
+            (locked(&self.waiting), |one: &Waiting<U>| is_meant(one.key, &one.until));
+        if !waiting.iter().any(is_meant) {
+            return Vec::new();
         }
-    }
-
-    #[cold]
-    fn wake_noted(&self, is_meant: impl Fn(u64, &U) -> bool) {
-        let woken = self.take(|one| is_meant(one.key, &one.until));
-        woken.into_iter().for_each(|one| quietly(|| one.waker.wake()));
-    }
-
-    #[cold]
-    fn take(&self, is_meant: impl Fn(&Waiting<U>) -> bool) -> Vec<Waiting<U>> {
-        let mut waiting = locked(&self.waiting);
-        let meant = taken(&mut waiting, is_meant);
+        let (meant, rest): (Vec<_>, _) = mem::take(&mut *waiting).into_iter().partition(is_meant);
+        *waiting = rest;
         self.are_any.store(!waiting.is_empty(), Ordering::SeqCst);
-        meant
+        drop(waiting);
+        meant.into_iter().map(|one| one.waker).collect()
     }
-}
-
-/// Takes those out that are meant. The rest keep their order.
-fn taken<U>(
-    waiting: &mut Vec<Waiting<U>>,
-    is_meant: impl Fn(&Waiting<U>) -> bool,
-) -> Vec<Waiting<U>> {
-    let (mut meant, mut place) = (Vec::new(), 0);
-    while place < waiting.len() {
-        if is_meant(&waiting[place]) {
-            meant.push(waiting.remove(place));
-        } else {
-            place += 1;
-        }
-    }
-    meant
 }
 
 impl<U> Drop for Tasks<U> {
     /// Only a future that was forgotten is noted by now.
     fn drop(&mut self) {
-        mem::take(locked_mut(&mut self.waiting)).into_iter().for_each(|one| quietly(|| drop(one)));
+        self.meant(|_, _| true).forget();
+    }
+}
+
+/// The wakers of tasks that are noted no more.
+#[must_use]
+pub struct Meant(Vec<Waker>);
+
+impl Meant {
+    #[inline]
+    pub fn wake(self) {
+        self.0.into_iter().for_each(|waker| quietly(|| waker.wake()));
+    }
+
+    #[inline]
+    fn forget(self) {
+        self.0.into_iter().for_each(|waker| quietly(|| drop(waker)));
     }
 }
 
@@ -123,14 +127,6 @@ impl Until {
             Holder::Grace(cpu) => Until::Exit(cpu),
             Holder::Passive(cpu) => Until::Release(cpu),
             Holder::Local(_) => Until::Local(slot),
-        }
-    }
-
-    pub fn is_of_cpu(self, id: u8) -> bool {
-        match self {
-            Until::Exit(cpu) | Until::Release(cpu) => cpu == id,
-            Until::Local(_) => false,
-            Until::Any => true,
         }
     }
 

@@ -32,7 +32,8 @@ macro_rules! has {
 /// The letters of the kinds of `T` that give a type a trait.
 macro_rules! kinds {
     ($type:ty, $trait:path) => {
-        kinds!($type, $trait, b: u64, y: std::sync::MutexGuard<'static, u8>, s: std::cell::Cell<u8>, n: std::rc::Rc<u8>)
+        kinds!($type, $trait, b: u64, y: std::sync::MutexGuard<'static, u8>,
+            s: std::cell::Cell<u8>, n: std::rc::Rc<u8>)
     };
     ($type:ty, $trait:path, $($letter:ident: $kind:ty),*) => {{
         let mut letters = String::new();
@@ -68,9 +69,11 @@ macro_rules! row {
 
 /// All types, the plain values in brackets.
 macro_rules! table {
-    ($($name:ident: $type:ty, $send:literal, $sync:literal, $others:literal;)* [$($plain:ident)*]) => {
+    ($($name:ident: $type:ty, $send:literal, $sync:literal, $others:literal;)*
+        [$($plain:ident)*]) => {
         fn table() -> Vec<Row> {
-            vec![$(row!($name, $type, $send, $sync, $others),)* $(row!($plain, $plain, "bysn", "bysn", "purc"),)*]
+            vec![$(row!($name, $type, $send, $sync, $others),)*
+                $(row!($plain, $plain, "bysn", "bysn", "purc"),)*]
         }
     };
 }
@@ -98,10 +101,12 @@ table! {
     Freed: Freed<T>,                                     "bs",   "by",   "purc";
     Refused: Refused<AttachError, T>,                    "bs",   "by",   "purc";
     Drained: Drained<T>,                                 "b",    "b",    "pur";
-    StillOpen: StillOpen<T>,                             "b",    "b",    "pur";
+    Refused: Refused<CloseError, Registry<T>>,           "b",    "b",    "purc";
     Destroyed: Destroyed<T>,                             "b",    "b",    "pur";
     Refused: Refused<DestroyError, Retired<T>>,          "b",    "b",    "pur";
-    [AttachError CpusError DestroyError DetachError LookUpError OpenError SynchronizeError RegistryError NameError Hold Holder Holders Place Balance Entry Key Kind Limits Name Patience Settings]
+    [AttachError CloseError CpusError DestroyError DetachError LookUpError OpenError
+    SynchronizeError RegistryError NameError Hold Holder Holders Place Balance Entry Key Kind
+    Limits Name Patience Settings]
 }
 
 #[test]

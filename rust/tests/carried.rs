@@ -21,7 +21,7 @@ fn what_is_left_is_dropped_at_the_closing() {
     let (registry, mut cpus) = with_driver(drops.make(0));
     cpus[0].attach("vga", drops.make(1)).unwrap();
     let (held, retired) = (local(&cpus[0], "wm"), cpus[0].detach("vga").unwrap());
-    let registry = registry.close(Patience::Turns(2)).unwrap_err().registry;
+    let registry = registry.close(Patience::Turns(2)).unwrap_err().given;
     assert!(registry == retired.registry() && registry == cpus[1].registry());
     drop((registry, cpus.pop()));
     let registry = cpus[0].registry();
@@ -107,7 +107,7 @@ fn tokens((_registry, cpus): &Plug, make: &dyn Fn(Role) -> Part) -> (Retired<Par
 const ENDS: [(&str, End); 8] = [
     ("the closing", |plug, _| drop(plug)),
     ("a closing with a deferred object", |(registry, cpus), _| {
-        let held = cpus[0].get_local((Kind::Iface, "gz0")).map_err(common::why).ok();
+        let held = cpus[0].get_local((Kind::Iface, "gz0")).ok();
         cpus[0].detach((Kind::Iface, "gz0")).unwrap().defer();
         drop(held);
         drop((registry, cpus));
@@ -120,7 +120,7 @@ const ENDS: [(&str, End); 8] = [
         );
     }),
     ("a drain with a deferred object", |(_registry, cpus), _| {
-        let held = cpus[0].get_local((Kind::Iface, "gz0")).map_err(common::why).ok();
+        let held = cpus[0].get_local((Kind::Iface, "gz0")).ok();
         cpus[0].detach((Kind::Iface, "gz0")).unwrap().defer();
         drop(held);
         assert_eq!(cpus[0].drain(patience()).unwrap().freed.len(), 2);
@@ -136,7 +136,7 @@ const ENDS: [(&str, End); 8] = [
         let (object, library) = tokens(&plug, &make);
         drop(library);
         assert_eq!((plug.0.free_deferred().len(), plug.0.deferred()), (0, 1));
-        drop(object.try_destroy().map_err(common::why).unwrap());
+        drop(object.try_destroy().unwrap());
         assert_eq!(plug.0.free_deferred().len(), 1);
     }),
     ("a collect of both", |plug, make| {
@@ -168,8 +168,8 @@ fn a_value_of_a_driver_outlives_those_of_its_interfaces() {
         let all = Rc::clone(&dropped);
         let make = move |role| Part { role, dropped: Rc::clone(&all) };
         let (registry, cpus) = opened(Settings::new(2, slots));
-        cpus[0].attach("gz", make(Role::Library)).map_err(common::why).unwrap();
-        cpus[0].attach_iface("gz", "gz0", make(Role::Object)).map_err(common::why).unwrap();
+        cpus[0].attach("gz", make(Role::Library)).unwrap();
+        cpus[0].attach_iface("gz", "gz0", make(Role::Object)).unwrap();
         end((registry, cpus), Box::new(make));
         let dropped = dropped.borrow();
         let last = |role| dropped.iter().rposition(|one| *one == role);

@@ -86,6 +86,7 @@ fn refusals_say_why() {
         R::OtherRegistry,
         R::OtherVersion,
         R::OtherLimits,
+        R::StillOpen,
     ];
     let texts = plain.iter().map(R::to_string).collect::<HashSet<_>>();
     assert!(texts.len() == plain.len() && texts.iter().all(|text| text.len() > 12), "{texts:?}");
@@ -99,6 +100,9 @@ fn refusals_say_why() {
     // A report prints each source after it, so the text isn't a source as well.
     let boxed: Box<dyn Error> = cpus[0].attach(WM, 8).unwrap_err().into();
     assert!(boxed.to_string() == R::NameTaken.to_string() && boxed.source().is_none());
+    let named = || -> Result<Name, R> { Ok(Name::try_from("")?) };
+    let closed = || -> Result<(), R> { Ok(cpus[0].registry().close(Patience::Turns(1))?) };
+    assert_eq!((named(), closed()), (Err(R::BadName), Err(R::StillOpen)));
 }
 
 /// Entries of two registries may have the same number, slot, kind and name.
@@ -142,7 +146,7 @@ fn handles_may_be_closed_at_once() {
         }
         thread::sleep(Duration::from_millis(5));
         // What another handle keeps is open.
-        let shortly = cpus[0].registry().close(Patience::Turns(3)).unwrap_err().registry;
+        let shortly = cpus[0].registry().close(Patience::Turns(3)).unwrap_err().given;
         assert!(shortly == cpus[1].registry());
         drop((shortly, cpus));
         let all = [(); 3].map(|()| from.recv_timeout(LONG).expect("a close that waits for ever"));
@@ -469,7 +473,8 @@ macro_rules! shadows {
     };
 }
 
-shadows!(acquire acquire_local cpu entry exit handle into_inner is_of map note_here reference release section try_clone value);
+shadows!(acquire acquire_local cpu entry exit handle into_inner is_of map note_here
+    reference release section try_clone value);
 
 #[test]
 fn no_function_hides_a_method_of_what_is_carried() {

@@ -5,10 +5,11 @@ mod common;
 
 use common::{every_call, local, name, opened, passive, poll, waker, Drops, Task, Tracked, LONG};
 use kupaldiz::{
-    Cpu, CpuPool, Key, Kind, LocalRef, PassiveRc, PassiveRef, Patience, ReadGuard, Registry,
-    Retired, Settings,
+    Cpu, CpuPool, DestroyError, Holder, Key, Kind, LocalRef, PassiveRc, PassiveRef, Patience,
+    ReadGuard, Registry, Retired, Settings,
 };
 use std::cell::RefCell;
+use std::fmt::{self, Write};
 use std::mem;
 use std::panic::{catch_unwind, panic_any, AssertUnwindSafe};
 use std::rc::Rc;
@@ -384,6 +385,47 @@ fn a_closure_may_do_anything() {
     }
 }
 
+/// Runs code as it reads a text.
+struct Reader<F>(F);
+
+impl<F: Fn()> Write for Reader<F> {
+    fn write_str(&mut self, _: &str) -> fmt::Result {
+        (self.0)();
+        Ok(())
+    }
+}
+
+#[test]
+fn a_reader_of_a_text_may_do_anything() {
+    let (to, from) = channel();
+    thread::spawn(move || {
+        let (scene, mut cpus) = Scene::open();
+        let (pool, held) = (CpuPool::new([cpus.remove(1)]).unwrap(), local(&cpus[0], "wm"));
+        let refused = cpus[0].detach("wm").unwrap().try_destroy().unwrap_err();
+        let section = cpus[0].enter().unwrap();
+        let (found, passive) = (section.find("vga").unwrap(), passive(&cpus[0], "vga"));
+        let shown: [&dyn fmt::Debug; 9] = [
+            &scene.registry,
+            &pool,
+            &cpus,
+            &held,
+            &refused,
+            &refused.given,
+            &section.entries(),
+            &found,
+            &passive,
+        ];
+        let calls = || {
+            assert!(pool.try_lend().is_some() && held.clone().label == 1);
+            assert_eq!((scene.registry.len(), scene.registry.get("vga").is_ok()), (1, true));
+        };
+        shown.iter().for_each(|one| write!(Reader(calls), "{one:?}").unwrap());
+        write!(Reader(calls), "{refused}").unwrap();
+        to.send(())
+    });
+    assert_eq!(from.recv_timeout(LONG), Ok(()));
+}
+
 /// What an `Acting` does as it is dropped, once.
 type Desk = Arc<Mutex<Option<Box<dyn FnOnce() + Send>>>>;
 
@@ -408,7 +450,7 @@ fn acting(drops: &Drops) -> (Registry<Acting>, Vec<Cpu<Acting>>, Vec<Desk>) {
     let desks: Vec<Desk> = (0..3).map(|_| Desk::default()).collect();
     for (place, desk) in desks.iter().enumerate() {
         let value = Acting { _tracked: drops.make(5), desk: Arc::clone(desk) };
-        cpus[0].attach(name(&format!("d{place}")), value).map_err(common::why).unwrap();
+        cpus[0].attach(name(&format!("d{place}")), value).unwrap();
     }
     cpus.truncate(2);
     (registry, cpus, desks)
@@ -441,13 +483,74 @@ fn a_drop_may_do_anything() {
     }
 }
 
+/// The first panic goes on, once all are dropped.
+#[test]
+fn each_drop_may_panic() {
+    let drops = Drops::default();
+    let (registry, cpus, desks) = acting(&drops);
+    let section = cpus[1].enter().unwrap();
+    for (place, desk) in desks.iter().enumerate() {
+        cpus[0].detach(name(&format!("d{place}"))).unwrap().defer();
+        *desk.lock().unwrap() = Some(Box::new(move || panic_any(place)));
+    }
+    section.exit();
+    let value = Acting { _tracked: drops.make(6), desk: Desk::default() };
+    cpus[0].attach("last", value).unwrap();
+    let last = cpus[0].detach("last").unwrap();
+    let ended = catch_unwind(AssertUnwindSafe(|| drop(last)));
+    assert_eq!(ended.unwrap_err().downcast_ref(), Some(&2_usize));
+    assert_eq!((drops.made(), registry.deferred()), (drops.dropped(), 0));
+}
+
+/// The drop of an interface may be code of the library that its driver carries: as long as it
+/// lasts, the driver's value is neither returned nor dropped. It may be dropped by its own token, or
+/// by another one after it was deferred, and may panic. If the driver is deferred meanwhile, it goes
+/// then.
+#[test]
+fn a_driver_waits_for_the_drop_of_its_interface() {
+    for (is_deferred, is_panicking) in [(false, false), (true, false), (false, true)] {
+        let (drops, desk) = (Drops::default(), Desk::default());
+        let (registry, cpus, _) = acting(&drops);
+        let object = Acting { _tracked: drops.make(6), desk: Arc::clone(&desk) };
+        cpus[0].attach_iface("d0", "port", object).unwrap();
+        let ((begin, begun), (end, ended)) = (channel(), channel());
+        *desk.lock().unwrap() = Some(Box::new(move || {
+            begin.send(()).unwrap();
+            let _ = ended.recv();
+            assert!(!is_panicking, "a drop's own");
+        }));
+        let held = cpus[1].get_local((Kind::Iface, "port")).ok();
+        let mut token = cpus[0].detach((Kind::Iface, "port")).unwrap();
+        if is_deferred {
+            token.defer();
+            token = cpus[0].detach("d1").unwrap();
+        }
+        drop(held);
+        let (mut driver, task) = (cpus[0].detach("d0").unwrap(), Task::here());
+        let dropping = thread::spawn(move || panics(|| drop(token)));
+        begun.recv_timeout(LONG).unwrap();
+        assert!(task.poll(&mut driver).is_pending());
+        let refused = driver.try_destroy().map(drop).unwrap_err();
+        assert_eq!(refused.refusal, DestroyError::StillHeld(Holder::Local(1)));
+        let driver = Some(refused.given).filter(|_| !is_deferred);
+        assert_eq!(registry.deferred(), usize::from(is_deferred));
+        end.send(()).unwrap();
+        assert_eq!(dropping.join().unwrap(), is_panicking);
+        assert_eq!((registry.deferred(), task.woken()), (0, usize::from(!is_deferred)));
+        assert!(driver.map_or(true, |driver| driver.try_destroy().is_ok()));
+        drop(cpus);
+        registry.close(Patience::Turns(1)).unwrap();
+        assert_eq!(drops.made(), drops.dropped());
+    }
+}
+
 /// The last handle, of each kind, and a close.
 #[test]
 fn a_drop_may_panic_as_the_registry_closes() {
     for (acts, last) in (0..3).flat_map(|acts| (0..5).map(move |last| (acts, last))) {
         let drops = Drops::default();
         let (registry, mut cpus, desks) = acting(&drops);
-        let held = cpus[0].get_local("d0").map_err(common::why).ok().unwrap();
+        let held = cpus[0].get_local("d0").unwrap();
         let token = cpus[0].detach("d1").unwrap();
         let cpu = cpus.remove(1);
         drop(cpus);
@@ -538,6 +641,28 @@ fn only_what_holds_an_entry_wakes_its_task() {
     outer.exit();
     both.are_free("a section");
     scene.ends(cpus, 1, "a section");
+}
+
+/// Nor does the end of a section on the CPU whose reference holds it.
+#[test]
+fn a_loan_that_goes_back_wakes_no_task_of_what_was_forgotten_on_it() {
+    let (_scene, mut cpus) = Scene::open();
+    let (pool, task) = (CpuPool::new([cpus.remove(1)]).unwrap(), Task::here());
+    mem::forget(pool.lend().get("wm").unwrap());
+    let mut wm = cpus[0].detach("wm").unwrap();
+    assert!(task.poll(&mut wm).is_pending());
+    mem::forget(pool.lend().enter().unwrap());
+    assert_eq!((task.woken(), pool.lend().depth()), (0, 0));
+}
+
+/// It gives no CPU back.
+#[test]
+fn a_close_that_waits_wakes_nobody() {
+    let (registry, cpus) = common::with_driver(7);
+    let (_held, task) = (local(&cpus[1], "wm"), Task::here());
+    let mut wm = cpus[0].detach("wm").unwrap();
+    assert!(task.poll(&mut wm).is_pending() && registry.close(Patience::Turns(9)).is_err());
+    assert_eq!(task.woken(), 0);
 }
 
 /// A task is woken by another thread while that has a lock of the program's: an attach wakes nobody

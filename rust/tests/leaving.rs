@@ -186,6 +186,38 @@ fn threads_need_no_cpu_of_their_own() {
     assert_eq!(drops.made(), drops.dropped());
 }
 
+/// The last `Registry` gives its CPU back as the next one comes.
+#[test]
+fn a_call_finds_a_cpu_while_handles_come_and_go() {
+    let (registry, cpus) = with_wm();
+    drop(registry);
+    let get = |cpu: Cpu<u32>| {
+        (0..common::scaled(5_000)).try_for_each(|_| cpu.registry().get(WM).map(drop))
+    };
+    thread::scope(|scope| {
+        let threads: Vec<_> = cpus.into_iter().map(|cpu| scope.spawn(move || get(cpu))).collect();
+        threads.into_iter().for_each(|thread| assert_eq!(thread.join().unwrap(), Ok(())));
+    });
+}
+
+/// A call that has a CPU gives it back, so the program has all.
+#[test]
+fn all_cpus_are_had_while_others_make_calls() {
+    let (registry, _) = with_wm();
+    let is_over = AtomicBool::new(false);
+    let get = || {
+        while !is_over.load(Ordering::Relaxed) {
+            assert_eq!(registry.get(WM).map(|held| *held), Ok(7));
+        }
+    };
+    thread::scope(|scope| {
+        (0..2).for_each(|_| drop(scope.spawn(get)));
+        let missing = (0..common::scaled(500)).find(|_| registry.cpus().len() != 3);
+        is_over.store(true, Ordering::Relaxed);
+        assert_eq!(missing, None);
+    });
+}
+
 #[test]
 fn a_future_that_is_dropped_or_done_leaves_nothing_behind() {
     let (registry, cpus) = with_wm();

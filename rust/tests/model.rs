@@ -1070,7 +1070,7 @@ fn run(seed: u64, steps: usize) {
     (0..steps).for_each(|_| bench.step());
     let drivers = mem::take(&mut bench.drivers);
     drop(bench);
-    let registry = registry.close(Patience::Turns(2)).unwrap_err().registry;
+    let registry = registry.close(Patience::Turns(2)).unwrap_err().given;
     drop((cpus, pool));
     registry.close(Patience::Turns(1)).unwrap();
     assert_eq!((drops.made(), of_others.dropped()), (drops.dropped(), 0));

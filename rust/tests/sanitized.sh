@@ -1,9 +1,9 @@
 #!/usr/bin/env bash
-# Runs the crate's tests under the address sanitizer and the thread sanitizer, over the archive in the
-# folder that KUPALDIZ_LIB_DIR names. KUPALDIZ_CHANGES has how much of them, in percent.
+# Runs the crate's tests under the address sanitizer and the thread sanitizer, over the archive in
+# the folder that KUPALDIZ_LIB_DIR names. KUPALDIZ_CHANGES has how much of them, in percent.
 #
-# The thread sanitizer sees no atomic step of the archive, so tests/common/watched.rs tells it of the
-# two edges of the memory order. Without either of them it reports a race: so it would see a value
+# The thread sanitizer sees no atomic step of the archive, so tests/common/watched.rs tells it of
+# the two edges of the memory order. Without either of them it reports a race: so it would see a value
 # that is read before its attach, or after it was freed. It doesn't see how the standard library's
 # locks wait, so the crate tries them again and again; nor its channels and conditions, so the other
 # tests run under the address sanitizer alone.
@@ -76,6 +76,7 @@ judge "no race is reported" is_quiet
 judge "a race is reported where a find isn't after its attach" soon_races find
 judge "a race is reported where a value isn't freed after its last use" soon_races freed
 judge "no access out of bounds, or of what was freed" run address "" \
-    --test carried --test face --test foreign --test leaving --test loans --test model --test together
+    --test carried --test face --test foreign --test leaving --test loans --test model \
+    --test together
 echo "$passed passed, $failed failed"
 [ "$failed" -eq 0 ]

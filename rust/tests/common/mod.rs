@@ -77,11 +77,11 @@ impl Dice {
 }
 
 pub fn local<T>(cpu: &Cpu<T>, text: &str) -> LocalRef<T> {
-    cpu.get_local(text).map_err(|refusal| panic!("{refusal}")).ok().unwrap()
+    cpu.get_local(text).unwrap()
 }
 
 pub fn passive<'cpu, T>(cpu: &'cpu Cpu<T>, text: &str) -> PassiveRef<'cpu, T> {
-    cpu.get(text).map_err(|refusal| panic!("{refusal}")).ok().unwrap()
+    cpu.get(text).unwrap()
 }
 
 /// A registry with two CPUs and the driver `wm`, which is number 1 in slot 0 and carries this.
@@ -238,8 +238,8 @@ pub fn poll<F: Future + Unpin>(future: &mut F, waker: &Waker) -> Poll<F::Output>
 
 /// Makes every call of a registry on a CPU that is outside. All that it attaches goes again.
 pub fn every_call<T>(registry: &Registry<T>, cpu: &Cpu<T>, value: impl Fn() -> T) {
-    cpu.attach("inner", value()).map_err(why).unwrap();
-    cpu.attach_iface("inner", "inner0", value()).map_err(why).unwrap();
+    cpu.attach("inner", value()).unwrap();
+    cpu.attach_iface("inner", "inner0", value()).unwrap();
     let section = cpu.enter().unwrap();
     let found = section
         .find("inner")
@@ -254,7 +254,7 @@ pub fn every_call<T>(registry: &Registry<T>, cpu: &Cpu<T>, value: impl Fn() -> T
     assert!(chosen.is_ok() || chosen == Err(kupaldiz::LookUpError::NoCpu));
     assert_eq!(registry.audit([cpu]).map(drop), Err(kupaldiz::CpusError::MissingCpu));
     let _ = cpu.synchronize(Patience::Turns(1));
-    let (_, old) = cpu.replace("inner", value()).map_err(why).unwrap();
+    let (_, old) = cpu.replace("inner", value()).unwrap();
     assert!(registry.clone().close(Patience::Turns(1)).is_err());
     let held = old.destroy_on(cpu, Patience::Turns(1)).map(drop).unwrap_err();
     let iface = cpu.detach((Kind::Iface, "inner0")).unwrap();

@@ -242,7 +242,8 @@ macro_rules! calls {
             }
             // An open has no handles yet. Some linkers also lead here what the archive calls
             // itself.
-            if stringify!($call) == "kupaldiz_open" || IS_WITHIN.with(|within| within.replace(true)) {
+            let is_open = stringify!($call) == "kupaldiz_open";
+            if is_open || IS_WITHIN.with(|within| within.replace(true)) {
                 // SAFETY: the caller guarantees it.
                 return unsafe { real($($name),*) };
             }

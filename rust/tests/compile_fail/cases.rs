@@ -1,11 +1,13 @@
-//! What the types of the crate rule out. The compiler takes this file as it is. `--cfg` and the name in a line add what follows that line. The compiler then
-//! reports errors. Each of them begins as the end of the line says.
+//! What the types of the crate rule out. The compiler takes this file as it is. `--cfg` and the
+//! name in a line add what follows that line. The compiler then reports errors. Each of them begins
+//! as the end of the line says.
 
-use kupaldiz::{Cpu, CpuPool, Found, Holder, LocalRef, Mapped, Name, PassiveRc, PassiveRef, Patience, ReadGuard, RegistryError, Registry};
-use kupaldiz::{Retired, Settings};
+use kupaldiz::{Cpu, CpuPool, Found, Holder, LocalRef, Mapped, Name, PassiveRc, PassiveRef};
+use kupaldiz::{Patience, ReadGuard, Registry, RegistryError, Retired, Settings};
 use std::rc::Rc;
 
-/// What is found, listed or carried isn't used past its section, nor the section past its CPU; and a section is exited once.
+/// What is found, listed or carried isn't used past its section, nor the section past its CPU; and
+/// a section is exited once.
 pub fn section(mut cpu: Cpu<String>, wm: &Name) -> Option<usize> {
     let section = cpu.enter().ok()?;
     let (found, listed) = (section.find(wm)?, section.entries().next()?);
@@ -30,7 +32,8 @@ pub fn section(mut cpu: Cpu<String>, wm: &Name) -> Option<usize> {
     Some(all)
 }
 
-/// A guard that reads an entry, and a part of that, are in use no longer than their CPU. Nobody writes what others read.
+/// A guard that reads an entry, and a part of that, are in use no longer than their CPU. Nobody
+/// writes what others read.
 pub fn read(mut cpu: Cpu<String>, wm: &Name) -> Option<usize> {
     let mut guard = cpu.read(wm).ok()?;
     let other = String::from("other");
@@ -70,10 +73,11 @@ pub fn passive(cpu: Cpu<String>, wm: &Name) -> Option<usize> {
     Some(reference.len())
 }
 
-/// So is a local one, at a registry whose entries carry the same. Only whoever destroys an entry takes away what it carries.
-pub fn local(mut reference: LocalRef<String>, cpu: &Cpu<String>, other: &Cpu<u64>) -> Option<usize> {
+/// So is a local one, at a registry whose entries carry the same. Only whoever destroys an entry
+/// takes away what it carries.
+pub fn local(mut reference: LocalRef<String>, cpu: &Cpu<String>, other: &Cpu<u64>) -> Option<u8> {
     #[cfg(local_used_past_its_release)] // E0505
-    return Some((reference.as_str(), LocalRef::release(reference, cpu)).0.len());
+    return Some((reference.as_str(), LocalRef::release(reference, cpu)).0.as_bytes()[0]);
     #[cfg(release_a_local_twice)] // E0382
     LocalRef::release(reference, cpu);
     #[cfg(release_at_another_type)] // E0308
@@ -111,7 +115,8 @@ pub fn value(registry: &Registry<String>, name: &Name, value: String) {
     drop(value);
 }
 
-/// A retired entry is destroyed once, by its token and by no number; and a detach that nothing follows is said.
+/// A retired entry is destroyed once, by its token and by no number; and a detach that nothing
+/// follows is said.
 #[cfg_attr(detach_and_forget, deny(unused_must_use))]
 pub fn detach(registry: &Registry<u64>, wm: &Name) -> Result<(), RegistryError> {
     #[cfg(detach_and_forget)] // unused `Retired` that must be used
@@ -147,11 +152,11 @@ pub fn share(cpu: Rc<Cpu<u64>>, reference: PassiveRc<u64>) {
 }
 
 /// A registry isn't taken for one whose entries carry something that lives shorter.
-pub fn shorten<'a>(registry: Registry<&'static str>, shorter: Registry<&'a str>) -> Registry<&'a str> {
+pub fn shorten<'a>(long: Registry<&'static str>, short: Registry<&'a str>) -> Registry<&'a str> {
     #[cfg(registry_taken_for_a_shorter_one)] // lifetime may not live long enough
-    return registry;
-    drop(registry);
-    shorter
+    return long;
+    drop(long);
+    short
 }
 
 /// A form, or a limit, that comes later breaks no caller.
