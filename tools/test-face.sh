@@ -12,6 +12,8 @@
 out=out
 header=crates/registry_c/include/kupaldiz.h
 page=man/kupaldiz.3
+# On a busy machine a panic that a test wants takes many seconds to print where it was.
+export RUST_BACKTRACE=0
 warnings=(-Wall -Wextra -Werror -Wpedantic -Wconversion -Wcast-qual -Wwrite-strings)
 
 # names HEADER PAGE: the page names each call of the header, and no other.
@@ -44,7 +46,7 @@ warned() {
 
 # Rust's runtime keeps some blocks to the end.
 guarded_rust() {
-    RUST_BACKTRACE=0 watched definite,indirect "$@"
+    watched definite,indirect "$@"
 }
 
 # The programs of the crate's tests, as cargo names them where it isn't told to be quiet; except those that run the compiler or themselves, or look at types.
