@@ -171,12 +171,20 @@ DRAWING = """<svg><rect data-crate="low"/><rect data-crate="high"/><path data-fr
 """
 PICTURED = "examples/perform-and-destroy.txt"
 
-PICTURES = {**real("examples/perform-and-destroy.*"), "docs/layers.svg": DRAWING, "crates.txt": "# NAME: ON\nlow: std\nhigh staticlib: low std\n"}
-case("picture", ["picture.py", "kit.py", "parts.py"], PICTURES, ["tools/picture.py", "check"], [
+# A picture that is made of a text, which README shows.
+DRAWN = {**real("docs/pictures/entry-life.*")}
+ALT = DRAWN["docs/pictures/entry-life.txt"].partition("\nalt ")[2].partition("\n")[0]
+DRAWN["README.md"] = f'<img src="docs/pictures/entry-life.svg" width="900" alt="{ALT}">\n'
+
+PICTURES = {**real("examples/perform-and-destroy.*"), **DRAWN, "docs/layers.svg": DRAWING, "crates.txt": "# NAME: ON\nlow: std\nhigh staticlib: low std\n"}
+case("picture", ["picture.py", "draw.py", "kit.py", "parts.py"], PICTURES, ["tools/picture.py", "check"], [
     Fault("another command", "perform-and-destroy.svg: it should say: enter 0", ((PICTURED, "enter 1", "enter 0"),)),
     Fault("another line of the report", "perform-and-destroy.svg: it should say: refused Waiting cpu 0", ((PICTURED, "Waiting cpu 1", "Waiting cpu 0"),)),
     Fault("a crate that is no box", "docs/layers.svg, crates: more", (("crates.txt", "low: std\n", "low: std\nmore: std\n"),)),
     Fault("an arrow that is missing", "docs/layers.svg, arrows: high-low", (("docs/layers.svg", 'data-from="high" data-to="low"', ""),)),
+    Fault("a picture that was changed by hand", "entry-life.svg: tools/draw.py make makes another", (("docs/pictures/entry-life.svg", ">vacant<", ">empty<"),)),
+    Fault("a picture with another text on its page", "entry-life.svg: no page shows it", (("README.md", "A slot is vacant", "A slot is empty"),)),
+    Fault("a text that has no room", "no room for: vacant and so on", (("docs/pictures/entry-life.txt", "| vacant |", "| vacant and so on, and on |"),)),
 ])
 
 PAGE, FACE = "man/kupaldiz.3", "crates/registry_c/include/kupaldiz.h"
