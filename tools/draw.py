@@ -1,7 +1,8 @@
 #!/usr/bin/env -S python3 -B
-"""Draws docs/pictures/NAME.svg from docs/pictures/NAME.txt.
+"""Draws docs/pictures/NAME.svg from docs/pictures/NAME.txt, or from a recording NAME.term.
 
     tools/draw.py make      writes each picture
+    tools/draw.py record    runs the commands of each recording anew, and writes what they print
     tools/draw.py check     writes nothing, and looks whether each is what its text makes, whether a
                             page shows it, and with its text for who can't see it. It ends with
                             'N passed, M failed'
@@ -21,10 +22,16 @@ Each other line draws something, in points from the upper left corner. '#' begin
 
 The colours are blue, violet, yellow, green, orange, grey and dashed. They and the text have one
 tone on light paper and one on dark. A text that is wider than its box is a fault.
+
+A recording has a title and a text for who can't see it, too. A line '! COMMAND' is run and not
+shown, '$ COMMAND' is run and shown, and the lines below it are what it prints. All are run by one
+bash, at the top of the tree, where $room is an empty folder.
 """
 import html
 import re
+import subprocess
 import sys
+import tempfile
 
 from parts import ROOT, counted
 
@@ -42,6 +49,7 @@ COLOURS = {
 }
 STYLES = {"": ("plain", 6.7), "bold": ("name", 7.9), "code": ("code", 7.3), "faint": ("faint", 6.7)}
 LINE, MARGIN = 18, 11
+PAGES = ("README.md", "docs/*.md", "explorer/README.md", "rust/README.md")
 IMAGE = re.compile(r'<img src="([^"]*)"[^>]* alt="([^"]*)"')
 
 
@@ -64,24 +72,24 @@ def written(x, y, text, kind=""):
 def box(words, texts):
     """A box with its name and its lines. It fails if one is too wide or there are too many."""
     colour, x, y, width, height = words[0], *map(int, words[1:])
-    drawn = f'<rect class="{colour}" x="{x}" y="{y}" width="{width}" height="{height}" rx="5"/>\n'
+    made = f'<rect class="{colour}" x="{x}" y="{y}" width="{width}" height="{height}" rx="5"/>\n'
     rows = [(it.removeprefix("~"), "bold" if not place else "faint" if it.startswith("~") else "") for place, it in enumerate(texts)]
     rows = [it for it in rows if it[0]]
     for place, (text, kind) in enumerate(rows):
         below = y + LINE * (place + 1) + 2
         if MARGIN + len(text) * STYLES[kind][1] > width or below > y + height:
             raise ValueError(f"no room for: {text}")
-        drawn += written(x + MARGIN, below, text, kind)
-    return drawn
+        made += written(x + MARGIN, below, text, kind)
+    return made
 
 
 def bar(words, texts):
     colour, x, y, width, height = words[0], *map(int, words[1:])
-    drawn = f'<rect class="{colour}" x="{x}" y="{y}" width="{width}" height="{height}" rx="3"/>\n'
+    made = f'<rect class="{colour}" x="{x}" y="{y}" width="{width}" height="{height}" rx="3"/>\n'
     text = texts[0] if texts else ""
     if 8 + len(text) * STYLES[""][1] > width:
         raise ValueError(f"no room for: {text}")
-    return drawn + (written(x + 8, y + height // 2 + 5, text) if text else "")
+    return made + (written(x + 8, y + height // 2 + 5, text) if text else "")
 
 
 def path(words, tip):
@@ -119,17 +127,66 @@ def picture(text):
     return "".join([*parts, *map(drawn_line, lines[3:]), "</svg>\n"]), alt
 
 
+def recorded(text):
+    """The picture of a recording: its lines come one after the other, or at once if motion is unwelcome."""
+    lines = text.splitlines()
+    title, alt = (it.partition(" ")[2] for it in lines[:2])
+    rows = [it for it in lines[2:] if not it.startswith(("!", "#"))]
+    width, height = 28 + 7.3 * max(map(len, rows)), 56 + LINE * len(rows)
+    if width > 900:
+        raise ValueError(f"no room for: {max(rows, key=len)}")
+    made, moment = "", 0
+    for place, row in enumerate(rows):
+        moment += 1.5 if row.startswith("$") else 0.1
+        kind = "code" if row.startswith("$") else "code faint"
+        made += (f'<text x="14" y="{52 + LINE * place}" class="{kind}" xml:space="preserve" '
+                  f'style="animation-delay: {moment:.1f}s">{html.escape(row)}</text>\n')
+    moves = (".code { animation: come 0.2s both } @keyframes come { from { opacity: 0 } to { opacity: 1 } }\n"
+             "@media (prefers-reduced-motion) { .code { animation: none } }\n")
+    return (f'<svg xmlns="http://www.w3.org/2000/svg" width="900" height="{height}" viewBox="0 0 900 {height}" role="img">\n'
+            f"<title>{html.escape(title)}</title>\n<desc>{html.escape(alt)}</desc>\n<style>\n{style()}{moves}</style>\n"
+            f'<rect class="paper" width="100%" height="100%"/>\n<text x="14" y="26" class="title">{html.escape(title)}</text>\n'
+            f"{made}</svg>\n"), alt
+
+
+def run_anew(text):
+    """The recording with what its commands print now."""
+    kept = text.splitlines()[:2] + [it for it in text.splitlines()[2:] if it.startswith(("!", "$", "#"))]
+    mark = "-- the next command --"
+    with tempfile.TemporaryDirectory() as room:
+        commands = [it[2:] for it in kept[2:] if not it.startswith("#")]
+        script = f"room={room}\nexec 2>&1\n" + "".join(f"{it}\necho '{mark}'\n" for it in commands)
+        ran = subprocess.run(["bash", "-c", script], cwd=ROOT, check=True, stdout=subprocess.PIPE, text=True)
+    said = iter(ran.stdout.replace(room, "").split(f"{mark}\n"))
+    lines = kept[:2]
+    for line in kept[2:]:
+        lines.append(line)
+        if not line.startswith("#"):
+            printed = next(said).splitlines()
+            lines += printed if line.startswith("$") else []
+    return "\n".join(lines) + "\n"
+
+
+def drawn(path):
+    """The picture that a file makes, and its text for who can't see it."""
+    return (recorded if path.suffix == ".term" else picture)(path.read_text())
+
+
+def sources():
+    return sorted(it for it in FOLDER.glob("*") if it.suffix in (".txt", ".term"))
+
+
 def shown():
     """Each picture of the folder that a page shows, with its text there."""
-    pages = [ROOT / "README.md", *sorted((ROOT / "docs").glob("*.md"))]
+    pages = [page for form in PAGES for page in sorted(ROOT.glob(form))]
     return {((page.parent / name).resolve(), alt) for page in pages for name, alt in IMAGE.findall(page.read_text())}
 
 
 def faults():
     """What is wrong with each picture, or ''."""
     there = shown()
-    for text in sorted(FOLDER.glob("*.txt")):
-        made, alt = picture(text.read_text())
+    for text in sources():
+        made, alt = drawn(text)
         file = text.with_suffix(".svg")
         name = file.relative_to(ROOT)
         yield "" if file.is_file() and file.read_text() == made else f"{name}: tools/draw.py make makes another one"
@@ -139,8 +196,11 @@ def faults():
 
 def main():
     if sys.argv[1:] == ["make"]:
-        for text in FOLDER.glob("*.txt"):
-            text.with_suffix(".svg").write_text(picture(text.read_text())[0])
+        for path in sources():
+            path.with_suffix(".svg").write_text(drawn(path)[0])
+    elif sys.argv[1:] == ["record"]:
+        for path in FOLDER.glob("*.term"):
+            path.write_text(run_anew(path.read_text()))
     elif sys.argv[1:] == ["check"]:
         sys.exit(counted(faults()))
     else:
