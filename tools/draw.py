@@ -132,8 +132,8 @@ def recorded(text):
     lines = text.splitlines()
     title, alt = (it.partition(" ")[2] for it in lines[:2])
     rows = [it for it in lines[2:] if not it.startswith(("!", "#"))]
-    width, height = 28 + 7.3 * max(map(len, rows)), 56 + LINE * len(rows)
-    if width > 900:
+    width, height = max(900, 28 + int(7.3 * max(map(len, rows)))), 56 + LINE * len(rows)
+    if width > 1000:
         raise ValueError(f"no room for: {max(rows, key=len)}")
     made, moment = "", 0
     for place, row in enumerate(rows):
@@ -143,7 +143,7 @@ def recorded(text):
                   f'style="animation-delay: {moment:.1f}s">{html.escape(row)}</text>\n')
     moves = (".code { animation: come 0.2s both } @keyframes come { from { opacity: 0 } to { opacity: 1 } }\n"
              "@media (prefers-reduced-motion) { .code { animation: none } }\n")
-    return (f'<svg xmlns="http://www.w3.org/2000/svg" width="900" height="{height}" viewBox="0 0 900 {height}" role="img">\n'
+    return (f'<svg xmlns="http://www.w3.org/2000/svg" width="{width}" height="{height}" viewBox="0 0 {width} {height}" role="img">\n'
             f"<title>{html.escape(title)}</title>\n<desc>{html.escape(alt)}</desc>\n<style>\n{style()}{moves}</style>\n"
             f'<rect class="paper" width="100%" height="100%"/>\n<text x="14" y="26" class="title">{html.escape(title)}</text>\n'
             f"{made}</svg>\n"), alt
