@@ -59,8 +59,8 @@ USERS = ("README.md", "bench/README.md", "packaging/VERSIONS.md", "packaging/INS
          "man/*.7", "man/kupaldiz*.in", "netbsd/include/kupaldiz/*.h", "rust/README.md", "crates/registry_c/include/kupaldiz.h",
          "docs/CHOOSING.md", "docs/SCRIPTS.md", "docs/TUTORIAL-C.md", "docs/ERRORS.md", "docs/HOW-IT-WORKS.md", "docs/PROVED.md", "docs/RUST-RULES.md")
 # Pages that are still to be worked over: their prose has more columns, and links say nothing.
-ROUGH = ("bench/README.md", "docs/GUARANTEES.md", "docs/MODEL.md", "docs/NETBSD.md",
-        "docs/PROOFS.md", "docs/RATTLE.md", "explorer/README.md")
+ROUGH = ("bench/README.md", "docs/NETBSD.md",
+        "explorer/README.md")
 MOST_COLUMNS = 100
 # A line that nothing can break.
 ONLY_CODE = re.compile(r"\s*`[^`]+`[.,:;]?")
