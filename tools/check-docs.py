@@ -14,6 +14,7 @@ import subprocess
 import sys
 from fnmatch import fnmatch
 
+import errors
 import facts
 from parts import ROOT, counted
 
@@ -172,6 +173,8 @@ def main():
     checks = [(path, kind, found) for path in files for kind, found in checks_of(path, words)]
     if facts.FACTS in files:
         checks += [(path, "facts", [fault] if fault else []) for path, fault in facts.compared(filter(has_facts, files))]
+    if errors.PAGE in files:
+        checks.append((errors.PAGE, "errors", [fault] if (fault := errors.fault()) else []))
     sys.exit(counted("\n".join(f"{path.relative_to(ROOT)}: {kind}: {line}" for line in found) for path, kind, found in checks))
 
 
