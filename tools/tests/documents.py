@@ -202,7 +202,7 @@ exit the section
 }
 case("errors", ["check-docs.py", "errors.py", "facts.py", "parts.py"], REMEDIES, ["tools/check-docs.py"], [
     *of("docs/ERRORS.md", ("another remedy", "man/kupaldiz.7: errors: tools/errors.py make writes other errors", "exit [the", "leave [the")),
-])
+], prepare=listed)
 
 PAGE, FACE = "man/kupaldiz.3", "crates/registry_c/include/kupaldiz.h"
 WANTED = """.Nm kupaldiz_depth ,
