@@ -14,6 +14,7 @@ import subprocess
 import sys
 from fnmatch import fnmatch
 
+import errors
 import facts
 from parts import ROOT, counted
 
@@ -59,8 +60,8 @@ USERS = ("README.md", "bench/README.md", "packaging/VERSIONS.md", "packaging/INS
          "man/*.7", "man/kupaldiz*.in", "netbsd/include/kupaldiz/*.h", "rust/README.md", "crates/registry_c/include/kupaldiz.h",
          "docs/CHOOSING.md", "docs/SCRIPTS.md", "docs/TUTORIAL-C.md", "docs/ERRORS.md", "docs/HOW-IT-WORKS.md", "docs/PROVED.md", "docs/RUST-RULES.md")
 # Pages that are still to be worked over: their prose has more columns, and links say nothing.
-ROUGH = ("bench/README.md", "docs/ARCHITECTURE.md", "docs/GUARANTEES.md", "docs/MODEL.md", "docs/NETBSD.md",
-        "docs/PROOFS.md", "docs/RATTLE.md", "explorer/README.md", "packaging/*.md")
+ROUGH = ("bench/README.md", "docs/NETBSD.md",
+        "explorer/README.md")
 MOST_COLUMNS = 100
 # A line that nothing can break.
 ONLY_CODE = re.compile(r"\s*`[^`]+`[.,:;]?")
@@ -172,6 +173,8 @@ def main():
     checks = [(path, kind, found) for path in files for kind, found in checks_of(path, words)]
     if facts.FACTS in files:
         checks += [(path, "facts", [fault] if fault else []) for path, fault in facts.compared(filter(has_facts, files))]
+    if errors.PAGE in files:
+        checks.append((errors.PAGE, "errors", [fault] if (fault := errors.fault()) else []))
     sys.exit(counted("\n".join(f"{path.relative_to(ROOT)}: {kind}: {line}" for line in found) for path, kind, found in checks))
 
 

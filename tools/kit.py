@@ -1,7 +1,9 @@
 """Knows the crates of crates.txt and the folder of the Rattle kit, and names both to `rattle`, the command beneath `rt`."""
 import functools
 import pathlib
+import shutil
 import subprocess
+import sys
 
 ROOT = pathlib.Path(__file__).resolve().parent.parent
 
@@ -9,6 +11,8 @@ ROOT = pathlib.Path(__file__).resolve().parent.parent
 @functools.cache
 def kit():
     """The kit's folder."""
+    if shutil.which("rt") is None:
+        sys.exit("there is no rt, the command of the Rattle kit: the kit comes from whoever gives you Rattle")
     said = subprocess.run(["rt", "doc"], check=True, stdout=subprocess.PIPE, text=True)
     return pathlib.Path(said.stdout.strip()).parent
 

@@ -1,10 +1,11 @@
 #!/usr/bin/env -S python3 -B
-"""Compares pictures that are drawn by hand with what they show.
+"""Compares pictures with what they show.
 
     tools/picture.py check
 
 - examples/NAME.svg has each command of NAME.txt, and then each line of the report there, in their order.
 - docs/layers.svg has the crates of crates.txt, each with an arrow to each of the nearest that it stands on.
+- docs/pictures/NAME.svg is what tools/draw.py makes of NAME.txt, and a page shows it.
 
 The last line is 'N passed, M failed', and the status is 1 where one failed.
 """
@@ -12,6 +13,7 @@ import html
 import re
 import sys
 
+import draw
 from kit import listed
 from parts import ROOT, counted
 
@@ -51,4 +53,4 @@ def layers():
 
 if sys.argv[1:] != ["check"]:
     sys.exit(__doc__)
-sys.exit(counted([*examples(), *layers()]))
+sys.exit(counted([*examples(), *layers(), *draw.faults()]))

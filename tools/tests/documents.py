@@ -35,7 +35,7 @@ def listed(tree):
     subprocess.run(["git", "init", "-q", "."], cwd=tree, check=True)
 
 
-case("check-docs", ["check-docs.py", "facts.py", "parts.py"], DOCUMENTS, ["tools/check-docs.py"], [
+case("check-docs", ["check-docs.py", "errors.py", "facts.py", "parts.py"], DOCUMENTS, ["tools/check-docs.py"], [
     *of("README.md", ("a dead link", "README.md: links: no file docs/gone.md", "A [page](docs/page.md)", "A [page](docs/gone.md)"),
         ("a table that is cut off", "a table ends at:  | 1 2", "| 1 | 2 |", " | 1 2"),
         ("a line that is too long", "README.md: columns: line 4 has 137 columns", "is here.", f"is {'h' * 89}ere."),
@@ -64,7 +64,7 @@ COUNTED = {
     "bench/runs/2026-11-29-boxed.txt": RUN,
     "crates/protocol/src/event.rt": "pub enum Event {\n    Seat(u8),\n}\n",
 }
-case("facts", ["check-docs.py", "facts.py", "parts.py"], COUNTED, ["tools/check-docs.py"], [
+case("facts", ["check-docs.py", "errors.py", "facts.py", "parts.py"], COUNTED, ["tools/check-docs.py"], [
     *of("README.md", ("another number", "README.md: facts: '3 of the 2 calls', and docs/facts has proved = 1, calls = 2", "1 of", "3 of"),
         ("another number in words", "'the other two call', and docs/facts has in_c = 1", "other one", "other two"),
         ("a form that no page has", "docs/facts: facts: no page says: the other {in_c} call", "call is C", "is C")),
@@ -171,13 +171,38 @@ DRAWING = """<svg><rect data-crate="low"/><rect data-crate="high"/><path data-fr
 """
 PICTURED = "examples/perform-and-destroy.txt"
 
-PICTURES = {**real("examples/perform-and-destroy.*"), "docs/layers.svg": DRAWING, "crates.txt": "# NAME: ON\nlow: std\nhigh staticlib: low std\n"}
-case("picture", ["picture.py", "kit.py", "parts.py"], PICTURES, ["tools/picture.py", "check"], [
+# A picture that is made of a text, which README shows.
+DRAWN = {**real("docs/pictures/entry-life.*")}
+ALT = DRAWN["docs/pictures/entry-life.txt"].partition("\nalt ")[2].partition("\n")[0]
+DRAWN["README.md"] = f'<img src="docs/pictures/entry-life.svg" width="900" alt="{ALT}">\n'
+
+PICTURES = {**real("examples/perform-and-destroy.*"), **DRAWN, "docs/layers.svg": DRAWING, "crates.txt": "# NAME: ON\nlow: std\nhigh staticlib: low std\n"}
+case("picture", ["picture.py", "draw.py", "kit.py", "parts.py"], PICTURES, ["tools/picture.py", "check"], [
     Fault("another command", "perform-and-destroy.svg: it should say: enter 0", ((PICTURED, "enter 1", "enter 0"),)),
     Fault("another line of the report", "perform-and-destroy.svg: it should say: refused Waiting cpu 0", ((PICTURED, "Waiting cpu 1", "Waiting cpu 0"),)),
     Fault("a crate that is no box", "docs/layers.svg, crates: more", (("crates.txt", "low: std\n", "low: std\nmore: std\n"),)),
     Fault("an arrow that is missing", "docs/layers.svg, arrows: high-low", (("docs/layers.svg", 'data-from="high" data-to="low"', ""),)),
+    Fault("a picture that was changed by hand", "entry-life.svg: tools/draw.py make makes another", (("docs/pictures/entry-life.svg", ">vacant<", ">empty<"),)),
+    Fault("a picture with another text on its page", "entry-life.svg: no page shows it", (("README.md", "A slot is vacant", "A slot is empty"),)),
+    Fault("a text that has no room", "no room for: vacant and so on", (("docs/pictures/entry-life.txt", "| vacant |", "| vacant and so on, and on |"),)),
 ])
+
+# What to do on an error, on a page and on the manual page.
+REMEDIES = {
+    "docs/ERRORS.md": "# Errors\n\n| No. | Error | What to do |\n|---|---|---|\n| 7 | `KUPALDIZ_INSIDE` | exit [the section](ERRORS.md) |\n",
+    "man/kupaldiz.7": """.Ss Errors
+.\\" Made of docs/ERRORS.md by tools/errors.py, down to the next such line.
+.Bl -tag -width Ds -compact
+.It Dv KUPALDIZ_INSIDE Pq 7
+exit the section
+.El
+.\\" tools/errors.py: the end.
+""",
+    "src/inside.c": "int KUPALDIZ_INSIDE;\n",
+}
+case("errors", ["check-docs.py", "errors.py", "facts.py", "parts.py"], REMEDIES, ["tools/check-docs.py"], [
+    *of("docs/ERRORS.md", ("another remedy", "man/kupaldiz.7: errors: tools/errors.py make writes other errors", "exit [the", "leave [the")),
+], prepare=listed)
 
 PAGE, FACE = "man/kupaldiz.3", "crates/registry_c/include/kupaldiz.h"
 WANTED = """.Nm kupaldiz_depth ,
