@@ -4,9 +4,9 @@
  *
  * Each reader looks up in a way of its own: by memory, in a section, by a passive reference and by
  * a local one. It finds the entries in their order, and uses the memory of each that it holds. The
- * changer replaces the entry where it is the first on the list, in the middle and the last, beside
- * neighbours of which one comes and goes and the others are replaced, too. A list frees what is
- * gone, and the memory behind it.
+ * changer replaces the entry where it is the first on the list, in the middle and the last. Of its
+ * three neighbours two are replaced, too, and the third comes and goes. A list frees what is gone,
+ * and the memory behind it.
  */
 #include <inttypes.h>
 #include <stdatomic.h>

@@ -425,8 +425,8 @@ enum kupaldiz_result kupaldiz_held(const struct kupaldiz_cpu *cpu, uint64_t numb
  * The entry keeps its slot until the release. A reference outlives the section and may go to
  * another thread. It is moved as a passive one is. Only the calls write it.
  *
- * `at` is private. It points to the reference's block. Once the reference was copied, it points to
- * a small block, of which each copy has one, and these lead to the block that they share.
+ * `at` is private. It points to the reference's block. Once the reference was copied, it and each
+ * copy point to a small block of their own instead, which leads to the block that they share.
  */
 struct kupaldiz_local {
 	struct kupaldiz_entry entry;
@@ -515,7 +515,7 @@ enum kupaldiz_result kupaldiz_try_release_local(struct kupaldiz_cpu *cpu,
  * It is for a reference that can't be released any more, as its registry or the keeper is closed.
  * It frees the reference's block of memory and changes nothing else: the entry is never freed, its
  * slot is never reused, and kupaldiz_destroy always meets KUPALDIZ_LOCAL. So does a forgotten copy,
- * whatever becomes of the others; what they share is never freed then.
+ * even if all others are released; what they share is never freed then.
  * Returns KUPALDIZ_EMPTY_HANDLE.
  */
 enum kupaldiz_result kupaldiz_forget_local(struct kupaldiz_local *local) KUPALDIZ_NONNULL(1);
@@ -551,7 +551,7 @@ enum kupaldiz_result kupaldiz_attach_iface(struct kupaldiz_keeper *keeper, struc
     struct kupaldiz_entry *made) KUPALDIZ_NONNULL(1, 2) KUPALDIZ_MUST_USE;
 
 /*
- * kupaldiz_replace - put another entry or driver in the place of the live one with this name
+ * kupaldiz_replace - replace the live entry or driver with this name by another
  *
  * A lookup meanwhile finds the old one or the new one: none because of the replacement. The new one
  * gets the next number and a vacant slot, and is written to `made`. The old one is written to
@@ -566,7 +566,7 @@ enum kupaldiz_result kupaldiz_replace(struct kupaldiz_keeper *keeper, struct kup
     struct kupaldiz_entry *made) KUPALDIZ_NONNULL(1, 2) KUPALDIZ_MUST_USE;
 
 /*
- * kupaldiz_replace_iface - put another interface in the place of the live one with this name
+ * kupaldiz_replace_iface - replace the live interface with this name by another
  *
  * The new one is on the live driver with the name `driver`, as with kupaldiz_attach_iface. The old
  * one keeps its driver until it is destroyed. Otherwise the call is as kupaldiz_replace.
