@@ -5,8 +5,8 @@
  * Each reader looks up in a way of its own: by memory, in a section, by a passive reference and by
  * a local one. It finds the entries in their order, and uses the memory of each that it holds. The
  * changer replaces the entry where it is the first on the list, in the middle and the last. Of its
- * three neighbours two are replaced, too, and the third comes and goes. A list frees what is gone,
- * and the memory behind it.
+ * three neighbours two are replaced, too, and the third comes and goes. Now and then it waits until
+ * a reader has found the entry. A list frees what is gone, and the memory behind it.
  */
 #include <inttypes.h>
 #include <stdatomic.h>
@@ -27,8 +27,7 @@ static pthread_mutex_t mutex = PTHREAD_MUTEX_INITIALIZER;
 static struct kupaldiz_interlock interlock;
 static struct kupaldiz_name wm, neighbours[NEIGHBOURS];
 static atomic_bool over;
-static atomic_uint_fast64_t found_all;
-static uint64_t made, freed;
+static uint64_t made, freed, found_all;
 
 static void free_object(void *of, const struct kupaldiz_entry *gone)
 {
@@ -116,11 +115,12 @@ struct reader {
 	struct kupaldiz_cpu *cpu;
 	uint64_t (*look_up)(struct kupaldiz_cpu *cpu, uint64_t *age);
 	pthread_t thread;
+	atomic_uint_fast64_t found;	/* how often it found the entry. It orders nothing */
 };
 
 static void *read_all(void *of)
 {
-	const struct reader *reader = of;
+	struct reader *reader = of;
 	uint64_t last = 0, age = 0;
 	for (uint64_t i = 0; !atomic_load(&over); i++) {
 		const uint64_t number = reader->look_up(reader->cpu, &age);
@@ -128,9 +128,22 @@ static void *read_all(void *of)
 		last = number;
 		if (i % 64 == 0)
 			walk(reader->cpu);
-		atomic_fetch_add(&found_all, 1);
+		atomic_fetch_add_explicit(&reader->found, 1, memory_order_relaxed);
 	}
 	return NULL;
+}
+
+static uint64_t found_by(const struct reader *reader)
+{
+	return atomic_load_explicit(&reader->found, memory_order_relaxed);
+}
+
+/* Waits until the reader has found the entry once more. */
+static void await_find(const struct reader *reader)
+{
+	const uint64_t before = found_by(reader);
+	while (found_by(reader) == before)
+		rest();
 }
 
 /* ---- The changer. ---- */
@@ -186,10 +199,15 @@ static void detach_all(void)
 	EXPECT(made == freed);
 }
 
-/* The first two neighbours are replaced, too, and the third comes and goes. */
-static void replace_all(uint64_t replacements)
+/*
+ * The first two neighbours are replaced, too, and the third comes and goes. Each reader in turn
+ * finds the entry in between.
+ */
+static void replace_all(uint64_t replacements, const struct reader *readers)
 {
 	for (uint64_t i = 0; i < replacements; i++) {
+		if (i % 100 == 0)
+			await_find(&readers[i / 100 % READERS]);
 		replace(&wm);
 		if (i % 3 == 0)
 			replace(&neighbours[i % 2]);
@@ -210,12 +228,15 @@ static void change(unsigned behind, uint64_t replacements)
 	atomic_store(&over, false);
 	for (unsigned i = 0; i < READERS; i++) {
 		all[i].cpu = &cpus[i];
+		atomic_store(&all[i].found, 0);
 		all[i].thread = started(read_all, &all[i]);
 	}
-	replace_all(replacements);
+	replace_all(replacements, all);
 	atomic_store(&over, true);
-	for (unsigned i = 0; i < READERS; i++)
+	for (unsigned i = 0; i < READERS; i++) {
 		joined(all[i].thread);
+		found_all += found_by(&all[i]);
+	}
 	detach_all();
 }
 
@@ -232,6 +253,6 @@ int main(int argc, char **argv)
 		change(behind, replacements);
 	DONE(kupaldiz_close(&keeper, cpus, CPUS));
 	printf("replaces: %" PRIu64 " replacements, each lookup of %" PRIu64 " found one\n",
-	    3 * replacements, atomic_load(&found_all));
+	    3 * replacements, found_all);
 	return 0;
 }
