@@ -27,7 +27,8 @@ static pthread_mutex_t mutex = PTHREAD_MUTEX_INITIALIZER;
 static struct kupaldiz_interlock interlock;
 static struct kupaldiz_name wm, neighbours[NEIGHBOURS];
 static atomic_bool over;
-static uint64_t made, freed, found_all;
+static atomic_uint_fast64_t found_all;
+static uint64_t made, freed;
 
 static void free_object(void *of, const struct kupaldiz_entry *gone)
 {
@@ -115,7 +116,7 @@ struct reader {
 	struct kupaldiz_cpu *cpu;
 	uint64_t (*look_up)(struct kupaldiz_cpu *cpu, uint64_t *age);
 	pthread_t thread;
-	atomic_uint_fast64_t found;	/* how often it found the entry. It orders nothing */
+	atomic_uint_fast64_t found;	/* how often it found the entry */
 };
 
 static void *read_all(void *of)
@@ -128,21 +129,17 @@ static void *read_all(void *of)
 		last = number;
 		if (i % 64 == 0)
 			walk(reader->cpu);
-		atomic_fetch_add_explicit(&reader->found, 1, memory_order_relaxed);
+		atomic_store(&reader->found, i + 1);
+		atomic_fetch_add(&found_all, 1);
 	}
 	return NULL;
-}
-
-static uint64_t found_by(const struct reader *reader)
-{
-	return atomic_load_explicit(&reader->found, memory_order_relaxed);
 }
 
 /* Waits until the reader has found the entry once more. */
 static void await_find(const struct reader *reader)
 {
-	const uint64_t before = found_by(reader);
-	while (found_by(reader) == before)
+	const uint64_t before = atomic_load(&reader->found);
+	while (atomic_load(&reader->found) == before)
 		rest();
 }
 
@@ -200,14 +197,14 @@ static void detach_all(void)
 }
 
 /*
- * The first two neighbours are replaced, too, and the third comes and goes. Each reader in turn
- * finds the entry in between.
+ * The first two neighbours are replaced, too, and the third comes and goes. Each reader finds the
+ * entry in between, at first and then each 1,000 replacements.
  */
 static void replace_all(uint64_t replacements, const struct reader *readers)
 {
 	for (uint64_t i = 0; i < replacements; i++) {
-		if (i % 100 == 0)
-			await_find(&readers[i / 100 % READERS]);
+		if (i % 1000 < READERS)
+			await_find(&readers[i % 1000]);
 		replace(&wm);
 		if (i % 3 == 0)
 			replace(&neighbours[i % 2]);
@@ -233,10 +230,8 @@ static void change(unsigned behind, uint64_t replacements)
 	}
 	replace_all(replacements, all);
 	atomic_store(&over, true);
-	for (unsigned i = 0; i < READERS; i++) {
+	for (unsigned i = 0; i < READERS; i++)
 		joined(all[i].thread);
-		found_all += found_by(&all[i]);
-	}
 	detach_all();
 }
 
@@ -253,6 +248,6 @@ int main(int argc, char **argv)
 		change(behind, replacements);
 	DONE(kupaldiz_close(&keeper, cpus, CPUS));
 	printf("replaces: %" PRIu64 " replacements, each lookup of %" PRIu64 " found one\n",
-	    3 * replacements, found_all);
+	    3 * replacements, atomic_load(&found_all));
 	return 0;
 }
