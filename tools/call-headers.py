@@ -240,6 +240,9 @@ def functions(_):
 
 MADE = {"c/include/kupaldiz_check.h": framed, "c/include/kupaldiz_tsan.h": framed,
         "c/src/texts.h": texts, "c/src/checked.h": functions}
+# What they are made from.
+FROM = ("tools/call-headers.py", "tools/header-pages.py", *HEADERS.values(),
+        "c/include/kupaldiz_check.h.in", "c/include/kupaldiz_tsan.h.in")
 
 
 def write(path):
@@ -252,14 +255,22 @@ def write(path):
         os.replace(new, file)
 
 
+def mark_new(path):
+    """packaging/places.mk sees by this file whether all are new. If they are, its time stays: else
+    each make would link the programs anew that are made of it, also while another process runs
+    them."""
+    time = (ROOT / path).stat().st_mtime
+    if any((ROOT / it).stat().st_mtime > time for it in FROM):
+        os.utime(ROOT / path)
+
+
 def main(words):
     if words != ["make"]:
         print("usage: call-headers.py make", file=sys.stderr)
         return 2
     for path in MADE:
         write(path)
-    # packaging/places.mk sees by the last one whether all are new.
-    os.utime(ROOT / path)
+    mark_new(path)
     return 0
 
 

@@ -246,7 +246,7 @@ KUPALDIZ_WORDS(struct kupaldiz_pool, 1);
  *
  * Nobody else uses the CPUs, or moves their handles, until kupaldiz_pool_close. They may be some of
  * a registry's CPUs: the thread that makes changes may keep one.
- * Returns KUPALDIZ_EMPTY_HANDLE for that of a CPU, KUPALDIZ_FULL_HANDLE for that of the pool,
+ * Returns KUPALDIZ_EMPTY_HANDLE for a CPU's handle, KUPALDIZ_FULL_HANDLE for the pool's,
  * KUPALDIZ_NULL if `cpus` is NULL, KUPALDIZ_BAD_SETTINGS if `count` is 0 or more than
  * KUPALDIZ_MOST_CPUS, KUPALDIZ_NO_MEMORY, also if keys of threads ran out.
  */

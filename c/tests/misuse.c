@@ -433,6 +433,22 @@ static void check_passive(struct bench *bench)
 	EXPECT(copy.entry.number == 0);
 }
 
+/* A passive reference has the entry as the caller gave it, a local one as the registry has it. */
+static void check_acquired(struct bench *bench)
+{
+	struct kupaldiz_cpu *cpu = &bench->cpus[INNER];
+	struct kupaldiz_entry given = bench->wm;
+	struct kupaldiz_passive passive = {0};
+	struct kupaldiz_local local = {0};
+	given.value++;
+	given.slot = SLOTS;
+	DONE(kupaldiz_acquire(cpu, &given, &passive));
+	DONE(kupaldiz_acquire_local(cpu, &given, &local));
+	EXPECT(same_entry(&passive.entry, &given) && same_entry(&local.entry, &bench->wm));
+	DONE(kupaldiz_release(cpu, &passive));
+	DONE(kupaldiz_release_local_locked(&bench->keeper, cpu, &local));
+}
+
 static void count_locals(struct bench *bench, uint64_t held)
 {
 	struct kupaldiz_met met;
@@ -574,6 +590,7 @@ int main(void)
 	const int status = run_in_child(open_roomy, check_forgotten, said, sizeof said);
 	EXPECT(said[0] == 0 && WIFSIGNALED(status) && WTERMSIG(status) == SIGKILL);
 	open_bench(&benches[ROOMY]);
+	check_acquired(&benches[ROOMY]);
 	check_passive(&benches[ROOMY]);
 	close_bench(&benches[ROOMY]);
 	open_bench(&benches[ROOMY]);

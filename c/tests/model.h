@@ -160,18 +160,6 @@ static inline struct model_slot *seek(struct model *model, unsigned cpu, enum ku
 	return slot;
 }
 
-static inline enum kupaldiz_result model_find(struct model *model, unsigned cpu,
-    enum kupaldiz_kind kind, const struct kupaldiz_name *name, struct kupaldiz_entry *found)
-{
-	if (!is_inside(model, cpu))
-		return KUPALDIZ_OUTSIDE;
-	const struct model_slot *slot = seek(model, cpu, kind, name);
-	if (slot == NULL)
-		return KUPALDIZ_NOT_FOUND;
-	*found = slot->entry;
-	return KUPALDIZ_DONE;
-}
-
 static inline enum kupaldiz_result model_look_up(struct model *model, unsigned cpu,
     enum kupaldiz_kind kind, const struct kupaldiz_name *name, struct kupaldiz_entry *found)
 {
@@ -182,6 +170,14 @@ static inline enum kupaldiz_result model_look_up(struct model *model, unsigned c
 		return KUPALDIZ_NOT_FOUND;
 	*found = slot->entry;
 	return KUPALDIZ_DONE;
+}
+
+/* In a section a lookup is a find. */
+static inline enum kupaldiz_result model_find(struct model *model, unsigned cpu,
+    enum kupaldiz_kind kind, const struct kupaldiz_name *name, struct kupaldiz_entry *found)
+{
+	return is_inside(model, cpu) ? model_look_up(model, cpu, kind, name, found)
+	                             : KUPALDIZ_OUTSIDE;
 }
 
 static inline enum kupaldiz_result model_enter_find(struct model *model, unsigned cpu,

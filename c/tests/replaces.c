@@ -4,9 +4,9 @@
  *
  * Each reader looks up in a way of its own: by memory, in a section, by a passive reference and by
  * a local one. It finds the entries in their order, and uses the memory of each that it holds. The
- * changer replaces the entry where it is the first on the list, in the middle and the last, beside
- * neighbours of which one comes and goes and the others are replaced, too. A list frees what is
- * gone, and the memory behind it.
+ * changer replaces the entry where it is the first on the list, in the middle and the last. Of its
+ * three neighbours two are replaced, too, and the third comes and goes. Now and then it waits until
+ * a reader has found the entry. A list frees what is gone, and the memory behind it.
  */
 #include <inttypes.h>
 #include <stdatomic.h>
@@ -116,11 +116,12 @@ struct reader {
 	struct kupaldiz_cpu *cpu;
 	uint64_t (*look_up)(struct kupaldiz_cpu *cpu, uint64_t *age);
 	pthread_t thread;
+	atomic_uint_fast64_t found;	/* how often it found the entry */
 };
 
 static void *read_all(void *of)
 {
-	const struct reader *reader = of;
+	struct reader *reader = of;
 	uint64_t last = 0, age = 0;
 	for (uint64_t i = 0; !atomic_load(&over); i++) {
 		const uint64_t number = reader->look_up(reader->cpu, &age);
@@ -128,9 +129,18 @@ static void *read_all(void *of)
 		last = number;
 		if (i % 64 == 0)
 			walk(reader->cpu);
+		atomic_store(&reader->found, i + 1);
 		atomic_fetch_add(&found_all, 1);
 	}
 	return NULL;
+}
+
+/* Waits until the reader has found the entry once more. */
+static void await_find(const struct reader *reader)
+{
+	const uint64_t before = atomic_load(&reader->found);
+	while (atomic_load(&reader->found) == before)
+		rest();
 }
 
 /* ---- The changer. ---- */
@@ -186,10 +196,15 @@ static void detach_all(void)
 	EXPECT(made == freed);
 }
 
-/* The first two neighbours are replaced, too, and the third comes and goes. */
-static void replace_all(uint64_t replacements)
+/*
+ * The first two neighbours are replaced, too, and the third comes and goes. Each reader finds the
+ * entry in between, at first and then each 1,000 replacements.
+ */
+static void replace_all(uint64_t replacements, const struct reader *readers)
 {
 	for (uint64_t i = 0; i < replacements; i++) {
+		if (i % 1000 < READERS)
+			await_find(&readers[i % 1000]);
 		replace(&wm);
 		if (i % 3 == 0)
 			replace(&neighbours[i % 2]);
@@ -210,9 +225,10 @@ static void change(unsigned behind, uint64_t replacements)
 	atomic_store(&over, false);
 	for (unsigned i = 0; i < READERS; i++) {
 		all[i].cpu = &cpus[i];
+		atomic_store(&all[i].found, 0);
 		all[i].thread = started(read_all, &all[i]);
 	}
-	replace_all(replacements);
+	replace_all(replacements, all);
 	atomic_store(&over, true);
 	for (unsigned i = 0; i < READERS; i++)
 		joined(all[i].thread);

@@ -1,15 +1,19 @@
 /*
- * speed THREADS ENTRIES OPERATIONS - what a lookup, a walk and a pair of acquire and release take,
- *     through kupaldiz.h
- * speed wait CPUS READERS ENTRIES COUNT - what a replacement takes beside readers, with and without
- *     a gap, and a perform, each call made by turns that wait
- * speed spread CPUS READERS ENTRIES COUNT - the percentiles of single lookups and replacements
+ * speed - what calls of kupaldiz.h take
  *
- * `lookup` makes three calls, `read` is the same in two (enter with find, and exit), `look_up` in
- * one, of entries that the CPU remembers, and `absent` of names that no entry has; `batch` is a
- * find in an open section, 32 of them between an enter and an exit; `get` gets a reference in one
- * call, and releases it. The operations, the threads and the time are those of bench/: see
- * bench/README.md.
+ *     speed THREADS ENTRIES OPERATIONS
+ *     speed wait CPUS READERS ENTRIES COUNT
+ *     speed spread CPUS READERS ENTRIES COUNT
+ *
+ * The first is of a lookup, a walk, and a pair of acquire and release. `wait` is of a replacement
+ * with and without a gap, and of a perform, beside readers, where each call is made by turns that
+ * wait. `spread` has the percentiles of single lookups and replacements.
+ *
+ * `lookup` makes three calls. `read` is the same in two: an enter with a find, and an exit.
+ * `look_up` is one call, for an entry that the CPU remembers, and `absent` for a name that no entry
+ * has. `batch` is a find in an open section, 32 of them between an enter and an exit. `get` gets a
+ * reference in one call, and releases it. bench/README.md has the operations, the threads and the
+ * time.
  */
 #include <inttypes.h>
 

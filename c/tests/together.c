@@ -2,10 +2,10 @@
  * together [ROUNDS] - many threads wait at once: in two registries, each with a keeper and a mutex
  * of its own, for each type of mutex
  *
- * A registry has four changers. Two let an entry come and go by kupaldiz_destroy_wait, one of them
- * by replacing it, one puts objects behind a pointer by kupaldiz_perform_wait or by calls of a
- * list, and one detaches to that list, which a reclaimer frees. Each waits until a reader uses its
- * object before it takes that away. Three readers use the objects of both registries at once, in
+ * A registry has four changers. One attaches and detaches an entry, and one replaces an entry; both
+ * make a kupaldiz_destroy_wait. One puts objects behind a pointer, by kupaldiz_perform_wait or by
+ * calls of a list. One detaches to that list, which a reclaimer frees. Each waits until a reader
+ * uses its object before it takes that away. Three readers use the objects of both registries at once, in
  * sections of both or by references. Objects lie on the heap, and are spoilt and freed as soon as
  * the wait says so.
  *

@@ -45,7 +45,7 @@ static const struct {
 	[RELEASE] = {"r", '-', (enum kupaldiz_result)RESULTS},
 };
 
-/* What may pass after a turn that wasn't the last: up to which turn, and what comes next. */
+/* What may pass after a turn that wasn't the last: the last such turn, and what comes next. */
 static const struct {
 	unsigned last;
 	const char *steps;

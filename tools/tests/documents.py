@@ -227,9 +227,16 @@ CALLED = """#define kupaldiz_exit(cpu) \\
 	[KUPALDIZ_NO_SLOT] = "no slot is vacant",
 	return end(kupaldiz_exit(cpu));
 """
+# A second make leaves the files as old as they were, unless what they are made from is newer.
 MAKES_CALLED = """#!/bin/sh
 set -e
 tools/call-headers.py make
+touch -d @1000000000 c/src/*.h c/include/*.h* crates/registry_c/include/*.h tools/*.py
+tools/call-headers.py make
+[ "$(stat -c %Y c/src/checked.h)" = 1000000000 ]
+touch crates/registry_c/include/kupaldiz.h
+tools/call-headers.py make
+[ "$(stat -c %Y c/src/checked.h)" != 1000000000 ]
 cat c/include/kupaldiz_check.h c/include/kupaldiz_tsan.h c/src/*.h >made
 ! grep -vxFf made wanted
 """

@@ -6,10 +6,10 @@
  * processor: one thread at a time uses it. Calls with the keeper are made under a lock of the
  * caller's, the interlock. No call waits; kupaldiz_waiting(3) has calls that do.
  *
- * A handle and a reference are set to {0} before their first use, which is empty. A call returns
- * KUPALDIZ_DONE, which is 0, or an error. On failure nothing changes and no output is written,
- * unless the call's comment says otherwise. An output may be NULL, unless the comment says that it
- * is needed.
+ * A handle and a reference are set to {0} before their first use, which is empty. In C++ {} is the
+ * same without a warning. A call returns KUPALDIZ_DONE, which is 0, or an error. On failure nothing
+ * changes and no output is written, unless the call's comment says otherwise. An output may be
+ * NULL, unless the comment says that it is needed.
  *
  * Each call tests its arguments first, in one order, and then what the registry allows:
  *
@@ -328,7 +328,8 @@ enum kupaldiz_result kupaldiz_enter_find(struct kupaldiz_cpu *cpu, enum kupaldiz
  * - An entry that is attached or detached in between may be in the row or not.
  *
  * In a section that was open already, the kupaldiz_enter of these lines is the outermost one, or a
- * kupaldiz_audit since. The call allocates no memory.
+ * kupaldiz_audit since. The walk counts as a lookup that found nothing, so a kupaldiz_acquire of an
+ * entry of the row looks it up. The call allocates no memory.
  * Returns KUPALDIZ_EMPTY_HANDLE, KUPALDIZ_NULL if `row` is NULL and `room` isn't 0,
  * KUPALDIZ_OUTSIDE, KUPALDIZ_NO_ROOM if there are more entries than `room`. With the last one the
  * first `room` entries are written to `row`, and the number of all to `count`.
@@ -369,11 +370,17 @@ enum kupaldiz_result kupaldiz_get(struct kupaldiz_cpu *cpu, enum kupaldiz_kind k
  * kupaldiz_acquire - inside a section, acquire a passive reference to this entry: psref_acquire
  *
  * A call has written the entry. It is known by its number: no other entry is ever acquired in its
- * place. The call is done if the entry is live, if it is what the section's last lookup found, or
- * if this CPU has a passive reference to it. `reference` is empty before and is needed.
+ * place. `reference` is empty before and is needed. The caller's entry is copied to it, not the
+ * registry's own.
+ *
+ * If the section's last lookup found the entry, or if this CPU has a passive reference to it, the
+ * entry may be live or retired. Otherwise the call is itself a kupaldiz_find of the entry's kind
+ * and name, and acquires the entry if it finds it. It doesn't find an entry that was detached or
+ * replaced meanwhile, although the section keeps its slot. From then on that find is the section's
+ * last lookup, also if the call fails.
  * Returns KUPALDIZ_EMPTY_HANDLE, KUPALDIZ_FULL_HANDLE, KUPALDIZ_NULL if `entry` is NULL,
- * KUPALDIZ_BAD_KIND, KUPALDIZ_BAD_NAME, KUPALDIZ_OUTSIDE, KUPALDIZ_NOT_FOUND if none of the three
- * holds, KUPALDIZ_PASSIVE_FULL.
+ * KUPALDIZ_BAD_KIND, KUPALDIZ_BAD_NAME, KUPALDIZ_OUTSIDE, KUPALDIZ_NOT_FOUND if it finds another
+ * entry or none, KUPALDIZ_PASSIVE_FULL.
  */
 enum kupaldiz_result kupaldiz_acquire(struct kupaldiz_cpu *cpu, const struct kupaldiz_entry *entry,
     struct kupaldiz_passive *reference) KUPALDIZ_NONNULL(1, 3) KUPALDIZ_MUST_USE;
@@ -417,10 +424,13 @@ enum kupaldiz_result kupaldiz_held(const struct kupaldiz_cpu *cpu, uint64_t numb
  * A local reference. {0} is empty. It has its entry, which the caller may read while it is held.
  * The entry keeps its slot until the release. A reference outlives the section and may go to
  * another thread. It is moved as a passive one is. Only the calls write it.
+ *
+ * `at` is private. It points to the reference's block. Once the reference was copied, it and each
+ * copy point to a small block of their own instead, which leads to the block that they share.
  */
 struct kupaldiz_local {
 	struct kupaldiz_entry entry;
-	void *at[2];		/* private */
+	void *at[2];		/* private: its block, or its share of one */
 };
 
 /*
@@ -448,12 +458,13 @@ enum kupaldiz_result kupaldiz_get_local(struct kupaldiz_cpu *cpu, enum kupaldiz_
  * kupaldiz_acquire_local - inside a section, acquire a local reference to this entry:
  * localcount_acquire
  *
- * A call has written the entry. The call is done if the entry is live, or if it is what the
- * section's last lookup found, and takes no other entry in its place. The rest is as with
- * kupaldiz_get_local.
+ * A call has written the entry, and no other is acquired in its place. If the section's last lookup
+ * found it, it may be live or retired. Otherwise the call looks it up, as kupaldiz_acquire does,
+ * also if the CPU has a reference to it. The registry's own entry is copied to `local`. The rest
+ * is as with kupaldiz_get_local.
  * Returns KUPALDIZ_EMPTY_HANDLE, KUPALDIZ_FULL_HANDLE, KUPALDIZ_NULL if `entry` is NULL,
  * KUPALDIZ_BAD_KIND, KUPALDIZ_BAD_NAME, KUPALDIZ_OUTSIDE, KUPALDIZ_NO_MEMORY, KUPALDIZ_NOT_FOUND if
- * neither holds, KUPALDIZ_LOCAL_FULL.
+ * it finds another entry or none, KUPALDIZ_LOCAL_FULL.
  */
 enum kupaldiz_result kupaldiz_acquire_local(struct kupaldiz_cpu *cpu,
     const struct kupaldiz_entry *entry, struct kupaldiz_local *local)
@@ -491,7 +502,8 @@ enum kupaldiz_result kupaldiz_release_local_locked(struct kupaldiz_keeper *keepe
  * It is the half of kupaldiz_release_local that never waits, for an event loop and for another
  * language. KUPALDIZ_COLLECTED says that the entry is being destroyed, and that this CPU's count of
  * it was collected already. Nothing is released then, and the reference stays as it was: the caller
- * takes the interlock and calls kupaldiz_release_local_locked.
+ * takes the interlock and calls kupaldiz_release_local_locked. As long as the reference has copies,
+ * the call returns KUPALDIZ_DONE, also once that count was collected: only the last one is counted.
  * Returns KUPALDIZ_EMPTY_HANDLE for either, KUPALDIZ_COLLECTED.
  */
 enum kupaldiz_result kupaldiz_try_release_local(struct kupaldiz_cpu *cpu,
@@ -503,7 +515,7 @@ enum kupaldiz_result kupaldiz_try_release_local(struct kupaldiz_cpu *cpu,
  * It is for a reference that can't be released any more, as its registry or the keeper is closed.
  * It frees the reference's block of memory and changes nothing else: the entry is never freed, its
  * slot is never reused, and kupaldiz_destroy always meets KUPALDIZ_LOCAL. So does a forgotten copy,
- * whatever becomes of the others; what they share is never freed then.
+ * even if all others are released; what they share is never freed then.
  * Returns KUPALDIZ_EMPTY_HANDLE.
  */
 enum kupaldiz_result kupaldiz_forget_local(struct kupaldiz_local *local) KUPALDIZ_NONNULL(1);
@@ -516,7 +528,7 @@ enum kupaldiz_result kupaldiz_forget_local(struct kupaldiz_local *local) KUPALDI
  * Lookups that begin after this call has returned find it, until it is detached or replaced. It
  * gets the next number, and the lowest-numbered vacant slot. The entry is written to `made`. The
  * call allocates no memory. An attach takes two of the registry's change_limit, as it reserves the
- * detach of its entry. kupaldiz_room says whether there is one left.
+ * detach of its entry. kupaldiz_room says whether there is room for it.
  * Returns KUPALDIZ_EMPTY_HANDLE, KUPALDIZ_NULL if `name` is NULL, KUPALDIZ_BAD_NAME,
  * KUPALDIZ_INSIDE, KUPALDIZ_NAME_TAKEN, KUPALDIZ_NO_SLOT, KUPALDIZ_HISTORY_FULL.
  */
@@ -528,7 +540,8 @@ enum kupaldiz_result kupaldiz_attach(struct kupaldiz_keeper *keeper, struct kupa
  * kupaldiz_attach_iface - attach an interface, on the live driver with the name `driver`
  *
  * The interface's slot keeps a local reference to the driver until the interface is freed. The call
- * acquires it in a section of its own. Otherwise it is as kupaldiz_attach.
+ * acquires it in a section of its own, which is used up also if the call fails with
+ * KUPALDIZ_NEEDS_DRIVER or a later error. Otherwise it is as kupaldiz_attach.
  * Returns KUPALDIZ_EMPTY_HANDLE, KUPALDIZ_NULL if `driver` or `name` is NULL, KUPALDIZ_BAD_NAME for
  * either, KUPALDIZ_INSIDE, KUPALDIZ_SECTIONS_SPENT, KUPALDIZ_NEEDS_DRIVER if no live driver has
  * that name, KUPALDIZ_LOCAL_FULL, KUPALDIZ_NAME_TAKEN, KUPALDIZ_NO_SLOT, KUPALDIZ_HISTORY_FULL.
@@ -538,12 +551,13 @@ enum kupaldiz_result kupaldiz_attach_iface(struct kupaldiz_keeper *keeper, struc
     struct kupaldiz_entry *made) KUPALDIZ_NONNULL(1, 2) KUPALDIZ_MUST_USE;
 
 /*
- * kupaldiz_replace - put another entry or driver in the place of the live one with this name
+ * kupaldiz_replace - replace the live entry or driver with this name by another
  *
  * A lookup meanwhile finds the old one or the new one: none because of the replacement. The new one
  * gets the next number and a vacant slot, and is written to `made`. The old one is written to
  * `gone`, which is needed: it is retired as by kupaldiz_detach, and is to be destroyed. A
- * replacement takes one of the registry's change_limit.
+ * replacement takes one of the registry's change_limit, but needs the room of an attach, as
+ * kupaldiz_room says.
  * Returns KUPALDIZ_EMPTY_HANDLE, KUPALDIZ_NULL if `name` or `gone` is NULL, KUPALDIZ_BAD_NAME,
  * KUPALDIZ_INSIDE, KUPALDIZ_NOT_FOUND, KUPALDIZ_NO_SLOT, KUPALDIZ_HISTORY_FULL.
  */
@@ -552,7 +566,7 @@ enum kupaldiz_result kupaldiz_replace(struct kupaldiz_keeper *keeper, struct kup
     struct kupaldiz_entry *made) KUPALDIZ_NONNULL(1, 2) KUPALDIZ_MUST_USE;
 
 /*
- * kupaldiz_replace_iface - put another interface in the place of the live one with this name
+ * kupaldiz_replace_iface - replace the live interface with this name by another
  *
  * The new one is on the live driver with the name `driver`, as with kupaldiz_attach_iface. The old
  * one keeps its driver until it is destroyed. Otherwise the call is as kupaldiz_replace.
@@ -578,8 +592,10 @@ enum kupaldiz_result kupaldiz_detach(struct kupaldiz_keeper *keeper, struct kupa
     KUPALDIZ_NONNULL(1, 2) KUPALDIZ_MUST_USE;
 
 /*
- * kupaldiz_room - whether there is room for an attach
+ * kupaldiz_room - whether there is room for an attach or a replacement
  *
+ * There is if a slot is vacant, and if the changes so far, the live entries and 2 are together at
+ * most change_limit.
  * Returns KUPALDIZ_EMPTY_HANDLE, KUPALDIZ_NO_SLOT, KUPALDIZ_HISTORY_FULL.
  */
 enum kupaldiz_result kupaldiz_room(const struct kupaldiz_keeper *keeper)
