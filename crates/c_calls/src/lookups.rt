@@ -4,7 +4,8 @@
 
 ghost use Rattle.std.specs.Prelude.{◌≡◌, Option};
 ghost use Rattle.protocol.specs.Common.{entry_with};
-ghost use Rattle.name_registry.specs.LookingUp.{looked_up};
+ghost use Rattle.passive_list.specs.Lookups.{entry_seen};
+ghost use Rattle.name_registry.specs.LookingUp.{found_or, looked_up};
 ghost use Rattle.c_handles.specs.values.Texts.{entry_out, number_of};
 ghost use Rattle.c_calls.specs.Calls.{Asks, EntersAndFindsFor, FindsFor, LooksUpFor, Puts, Through};
 
@@ -98,8 +99,8 @@ fn find_asked(cpu: &mut CpuBody, key: Key, found: &mut EntryPlace) -> u32
     if !cpu.inside() {
         return OUTSIDE;
     }
-    let looked = find_in(&cpu.words, &mut cpu.cpu, key);
-    put_looked(looked, key, found)
+    let seen = find_in(&cpu.words, &mut cpu.cpu, key);
+    put_seen(seen, key, found)
 }
 
 /// `kupaldiz_enter_find` of the header.
@@ -140,18 +141,31 @@ fn enter_find_by(cpu: &mut CpuBody, kind: u32, name: Option<CName>, found: &mut 
 
 /// Writes the entry that a lookup found, and returns the number of its result.
 #[inline(always)]
-pub fn put_looked(looked: Result<Seen, Refusal>, key: Key, found: &mut EntryPlace) -> u32
+fn put_looked(looked: Result<Option<Seen>, Refusal>, key: Key, found: &mut EntryPlace) -> u32
     ensures place { found.new.at ≡ found.old.at }
     ensures number { result ≡ number_of (looked_up key looked) }
     ensures written { Puts entry_out (looked_up key looked) found.old.value found.new.value }
 {
     match looked {
-        Ok(seen) => {
+        Ok(seen) => put_seen(seen, key, found),
+        Err(refusal) => refused(refusal),
+    }
+}
+
+/// The same where the lookup was not refused.
+#[inline(always)]
+fn put_seen(seen: Option<Seen>, key: Key, found: &mut EntryPlace) -> u32
+    ensures place { found.new.at ≡ found.old.at }
+    ensures number { result ≡ number_of (found_or (entry_seen key seen)) }
+    ensures written { Puts entry_out (found_or (entry_seen key seen)) found.old.value found.new.value }
+{
+    match seen {
+        Some(seen) => {
             let entry = seen_out(key, seen);
             found.put(entry);
             DONE
         }
-        Err(refusal) => refused(refusal),
+        None => refused(Refusal::NotFound),
     }
 }
 

@@ -26,7 +26,7 @@ looks m key a b r had = record {
   inside = λ deep. inside m key a b r (had.inside deep);
 }
 
-pub looks_up : (m : ℕ) (key : Key) (a b : OnCpu) (r : Result Seen Refusal) (s : Result Entry Refusal) → LooksUp key a b (looked_up key r) → s ≡ looked_up key r → LooksUp key (sharing m a) (sharing m b) s
+pub looks_up : (m : ℕ) (key : Key) (a b : OnCpu) (r : Result (Option Seen) Refusal) (s : Result Entry Refusal) → LooksUp key a b (looked_up key r) → s ≡ looked_up key r → LooksUp key (sharing m a) (sharing m b) s
 looks_up m key a b r s had is = subst (LooksUp key (sharing m a) (sharing m b)) (sym is) (looks m key a b (looked_up key r) had)
 
 -- A get

@@ -10,9 +10,9 @@ abbrev pub found_or : Option Entry → Result Entry Refusal
 found_or None = Err NotFound
 found_or (Some e) = Ok e
 
--- the result of a lookup, by the words of the entry
-abbrev pub looked_up : Key → Result Seen Refusal → Result Entry Refusal
-looked_up key (Ok s) = Ok (entry_with key s.slot s.number s.value)
+-- the result of a lookup, by the words of the entry, if there is one
+abbrev pub looked_up : Key → Result (Option Seen) Refusal → Result Entry Refusal
+looked_up key (Ok seen) = found_or (entry_seen key seen)
 looked_up key (Err f) = Err f
 
 -- and of a get

@@ -47,59 +47,59 @@ impl<D: Domain> Registry<D> {
     }
 }
 
-/// `Registry::look_up` on a CPU that names its own table. Returns the words of the entry. Condition: the words are its table's.
+/// `Registry::look_up` on a CPU that names its own table. Returns the words of the entry, or `None` in place of `NotFound`: a refusal
+/// has a byte of its own then, so that these words stay in registers. Condition: the words are its table's.
 #[inline(always)]
-pub fn look_up_in(words: &Words, cpu: &mut PlainCpu, key: Key) -> Result<Seen, Refusal>
+pub fn look_up_in(words: &Words, cpu: &mut PlainCpu, key: Key) -> Result<Option<Seen>, Refusal>
     requires words { AreWordsOf words.now cpu.old.words.table cpu.old.words.settings }
     ensures looks { LooksUp key cpu.old.cpu cpu.new.cpu (looked_up key result) }
-    ensures slot { IfOk result (λ seen. seen.slot < MOST_SLOTS) }
+    ensures slot { IfOk result (λ seen. IfSome seen (λ s. s.slot < MOST_SLOTS)) }
     ensures words { cpu.new.words ≡ cpu.old.words }
 {
     if may_begin_on(words, cpu) {
         let seen = find_by_memory(words, cpu, key.kind, key.name);
-        return found_or(key, seen);
+        return Ok(seen);
     }
     look_up_nested(words, cpu, key)
 }
 
 /// A lookup where it may begin no section. It stands apart, so that a lookup by memory saves no register for it.
 #[inline(never)]
-fn look_up_nested(words: &Words, cpu: &mut PlainCpu, key: Key) -> Result<Seen, Refusal>
+fn look_up_nested(words: &Words, cpu: &mut PlainCpu, key: Key) -> Result<Option<Seen>, Refusal>
     requires words { AreWordsOf words.now cpu.old.words.table cpu.old.words.settings }
     requires not { MayBegin cpu.old.cpu → ⊥ }
     ensures looks { LooksUp key cpu.old.cpu cpu.new.cpu (looked_up key result) }
-    ensures slot { IfOk result (λ seen. seen.slot < MOST_SLOTS) }
+    ensures slot { IfOk result (λ seen. IfSome seen (λ s. s.slot < MOST_SLOTS)) }
     ensures words { cpu.new.words ≡ cpu.old.words }
 {
     if cpu.depth == 0 {
         return Err(Refusal::SectionsSpent);
     }
-    find_in(words, cpu, key)
+    Ok(find_in(words, cpu, key))
 }
 
-/// Looks an entry up in the open section, by memory where that serves. Returns its words: it is the last found entry then.
-/// Refused: `NotFound`. Conditions: the words are the CPU's table's; inside.
+/// Looks an entry up in the open section, by memory where that serves. Returns its words, if there is one: it is the last found entry then.
+/// Conditions: the words are the CPU's table's; inside.
 #[inline(always)]
-pub fn find_in(words: &Words, cpu: &mut PlainCpu, key: Key) -> Result<Seen, Refusal>
+pub fn find_in(words: &Words, cpu: &mut PlainCpu, key: Key) -> Option<Seen>
     requires words { AreWordsOf words.now cpu.old.words.table cpu.old.words.settings }
     requires inside { cpu.old.cpu.view.begin ≢ None }
-    ensures looks { LooksInside key cpu.old.cpu cpu.new.cpu (looked_up key result) }
-    ensures slot { IfOk result (λ seen. seen.slot < MOST_SLOTS) }
+    ensures looks { LooksInside key cpu.old.cpu cpu.new.cpu (found_or (entry_seen key result)) }
+    ensures slot { IfSome result (λ seen. seen.slot < MOST_SLOTS) }
     ensures inside { cpu.new.cpu.view.begin ≡ cpu.old.cpu.view.begin }
     ensures words { cpu.new.words ≡ cpu.old.words }
 {
-    let seen = find_inside_on(words, cpu, key.kind, key.name);
-    found_or(key, seen)
+    find_inside_on(words, cpu, key.kind, key.name)
 }
 
 /// Enters a section, or the open one once more, and looks an entry up in it. Returns its words: it is the last found entry then, and the CPU stays
-/// inside. Where this fails the CPU is as deep inside as before.
-/// Refused: `TooDeep`, `SectionsSpent`, as `enter`, and nothing has changed; `NotFound`. Condition: the words are the CPU's table's.
+/// inside. Where there is none, or this is refused, the CPU is as deep inside as before.
+/// Refused: `TooDeep`, `SectionsSpent`, as `enter`, and nothing has changed. Condition: the words are the CPU's table's.
 #[inline(always)]
-pub fn enter_find_in(words: &Words, cpu: &mut PlainCpu, key: Key) -> Result<Seen, Refusal>
+pub fn enter_find_in(words: &Words, cpu: &mut PlainCpu, key: Key) -> Result<Option<Seen>, Refusal>
     requires words { AreWordsOf words.now cpu.old.words.table cpu.old.words.settings }
     ensures finds { EntersAndFinds key cpu.old.cpu cpu.new.cpu (looked_up key result) }
-    ensures slot { IfOk result (λ seen. seen.slot < MOST_SLOTS) }
+    ensures slot { IfOk result (λ seen. IfSome seen (λ s. s.slot < MOST_SLOTS)) }
     ensures words { cpu.new.words ≡ cpu.old.words }
 {
     if may_begin_on(words, cpu) {
@@ -110,10 +110,10 @@ pub fn enter_find_in(words: &Words, cpu: &mut PlainCpu, key: Key) -> Result<Seen
 
 /// The same where it may begin no section. It stands apart, so that from outside nothing is tested twice.
 #[inline(never)]
-fn enter_find_nested(words: &Words, cpu: &mut PlainCpu, key: Key) -> Result<Seen, Refusal>
+fn enter_find_nested(words: &Words, cpu: &mut PlainCpu, key: Key) -> Result<Option<Seen>, Refusal>
     requires words { AreWordsOf words.now cpu.old.words.table cpu.old.words.settings }
     ensures finds { EntersAndFinds key cpu.old.cpu cpu.new.cpu (looked_up key result) }
-    ensures slot { IfOk result (λ seen. seen.slot < MOST_SLOTS) }
+    ensures slot { IfOk result (λ seen. IfSome seen (λ s. s.slot < MOST_SLOTS)) }
     ensures words { cpu.new.words ≡ cpu.old.words }
 {
     enter_and_find(words, cpu, key)
@@ -121,18 +121,18 @@ fn enter_find_nested(words: &Words, cpu: &mut PlainCpu, key: Key) -> Result<Seen
 
 /// An enter and a find, and an exit where it found nothing.
 #[inline(always)]
-fn enter_and_find(words: &Words, cpu: &mut PlainCpu, key: Key) -> Result<Seen, Refusal>
+fn enter_and_find(words: &Words, cpu: &mut PlainCpu, key: Key) -> Result<Option<Seen>, Refusal>
     requires words { AreWordsOf words.now cpu.old.words.table cpu.old.words.settings }
     ensures finds { EntersAndFinds key cpu.old.cpu cpu.new.cpu (looked_up key result) }
-    ensures slot { IfOk result (λ seen. seen.slot < MOST_SLOTS) }
+    ensures slot { IfOk result (λ seen. IfSome seen (λ s. s.slot < MOST_SLOTS)) }
     ensures words { cpu.new.words ≡ cpu.old.words }
 {
     enter_on(words, cpu)?;
     match find_in(words, cpu, key) {
-        Ok(seen) => Ok(seen),
-        Err(refusal) => {
+        Some(seen) => Ok(Some(seen)),
+        None => {
             exit_on(words, cpu);
-            Err(refusal)
+            Ok(None)
         }
     }
 }
@@ -221,21 +221,11 @@ fn find_and_acquire(words: &Words, cpu: &mut PlainCpu, key: Key) -> Result<(Seen
     ensures inside { cpu.new.cpu.view.begin ≡ cpu.old.cpu.view.begin }
     ensures words { cpu.new.words ≡ cpu.old.words }
 {
-    let seen = find_in(words, cpu, key)?;
+    let Some(seen) = find_in(words, cpu, key) else {
+        return Err(Refusal::NotFound);
+    };
     let psref = acquire_on(words, cpu)?;
     Ok((seen, psref))
-}
-
-/// The result of a lookup that found so.
-#[inline(always)]
-fn found_or(key: Key, seen: Option<Seen>) -> Result<Seen, Refusal>
-    requires slot { IfSome seen (λ seen. seen.slot < MOST_SLOTS) }
-    ensures is { looked_up key result ≡ found_or (entry_seen key seen) }
-    ensures slot { IfOk result (λ seen. seen.slot < MOST_SLOTS) }
-{
-    // The contract alone speaks of the key.
-    let _key = key;
-    seen.ok_or(Refusal::NotFound)
 }
 
 /// The entry of these words.
@@ -258,12 +248,13 @@ fn entry_of(key: Key, seen: Seen) -> Entry
 
 /// A lookup's result with the entry in place of its words.
 #[inline(always)]
-fn with_entry(key: Key, looked: Result<Seen, Refusal>) -> Result<Entry, Refusal>
-    requires slot { IfOk looked (λ seen. seen.slot < MOST_SLOTS) }
+fn with_entry(key: Key, looked: Result<Option<Seen>, Refusal>) -> Result<Entry, Refusal>
+    requires slot { IfOk looked (λ seen. IfSome seen (λ s. s.slot < MOST_SLOTS)) }
     ensures { result ≡ looked_up key looked }
 {
     match looked {
-        Ok(seen) => Ok(entry_of(key, seen)),
+        Ok(Some(seen)) => Ok(entry_of(key, seen)),
+        Ok(None) => Err(Refusal::NotFound),
         Err(refusal) => Err(refusal),
     }
 }
