@@ -4,7 +4,7 @@
 
 ghost use Rattle.std.specs.Prelude.{◌≡◌, Option};
 ghost use Rattle.protocol.specs.Common.{entry_with};
-ghost use Rattle.passive_list.specs.Lookups.{entry_seen};
+ghost use Rattle.passive_list.specs.Common.{entry_seen};
 ghost use Rattle.name_registry.specs.LookingUp.{found_or, looked_up};
 ghost use Rattle.c_handles.specs.values.Texts.{entry_out, number_of};
 ghost use Rattle.c_calls.specs.Calls.{Asks, EntersAndFindsFor, FindsFor, LooksUpFor, Puts, Through};
