@@ -61,7 +61,7 @@ COUNTED = {
     "crates/registry_c/include/kupaldiz_limits.h": "".join(f"#define KUPALDIZ_MOST_{name} {value}\n" for name, value in (
         ("CPUS", "4"), ("SLOTS", "8"), ("CHANGES", "(UINT64_C(1) << 20)"), ("SECTIONS", "(UINT64_C(1) << 30)"), ("DEPTH", "9"))),
     "crates/registry_c/src/one.rt": "#[unsafe(no_mangle)]\n",
-    "bench/runs/2026-11-29-boxed.txt": RUN,
+    "bench/runs/2026-11-30-face.txt": RUN,
     "crates/protocol/src/event.rt": "pub enum Event {\n    Seat(u8),\n}\n",
 }
 case("facts", ["check-docs.py", "errors.py", "facts.py", "parts.py"], COUNTED, ["tools/check-docs.py"], [
@@ -70,7 +70,7 @@ case("facts", ["check-docs.py", "errors.py", "facts.py", "parts.py"], COUNTED, [
         ("a form that no page has", "docs/facts: facts: no page says: the other {in_c} call", "call is C", "is C")),
     *of("crates/registry_c/include/kupaldiz.h", ("one call more", "calls = 2, and the sources have 3", "int registry_run", "int registry_go(void);\nint registry_run")),
     *of("crates/registry_c/src/one.rt", ("one export more", "proved = 1, and the sources have 2", "#[unsafe(no_mangle)]\n", "#[unsafe(no_mangle)]\n" * 2)),
-    *of("bench/runs/2026-11-29-boxed.txt", ("another figure", "copy = 5, and the sources have 6", "4.6", "5.6")),
+    *of("bench/runs/2026-11-30-face.txt", ("another figure", "copy = 5, and the sources have 6", "4.6", "5.6")),
     *of("crates/protocol/src/event.rt", ("one event more", "events = 1, and the sources have 2", "u8),\n", "u8),\n    Exit(u8),\n")),
     *of("crates/registry_c/include/kupaldiz_limits.h", ("another limit", "changes = 20, and the sources have 21", "<< 20", "<< 21")),
 ], prepare=listed)
