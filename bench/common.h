@@ -79,6 +79,7 @@ extern const struct contender hand_padded;
 extern const struct contender hand_packed;
 extern const struct contender hand_pointed;
 extern const struct contender hand_kept;
+extern const struct contender hand_called;
 extern const struct contender urcu_memb;
 extern const struct contender urcu_mb;
 extern const struct contender urcu_qsbr;

@@ -5,8 +5,8 @@
 #include <string.h>
 
 static const struct contender *const contenders[] = {
-    &hand_padded, &hand_packed, &hand_pointed, &hand_kept, &urcu_memb, &urcu_mb,
-    &urcu_bp, &urcu_qsbr, &epoch, &rwlock, &mutex,
+    &hand_padded, &hand_packed, &hand_pointed, &hand_kept, &hand_called, &urcu_memb,
+    &urcu_mb, &urcu_bp, &urcu_qsbr, &epoch, &rwlock, &mutex,
 #ifdef WITH_DPDK
     &dpdk_qsbr,
 #endif

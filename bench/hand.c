@@ -1,7 +1,8 @@
 /* The steps of our registry, written by hand over the same words, each a sequentially consistent atomic operation.
    Padded: the words of a CPU are a row from the next CPU's, as ours are. Packed: each CPU's word lies beside the next CPU's. Pointed: padded,
    in a block made at run time, whose pointer is loaded at each step, as that of our table is. Kept: pointed, with all that a CPU of ours keeps beside its
-   words: how deep its section is, how many it has ended, and what it found last. What it costs beyond `hand-pointed` is the price of that. */
+   words: how deep its section is, how many it has ended, and what it found last. What it costs beyond `hand-pointed` is the price of that. Called: kept,
+   each step by a call that isn't inlined, as a program in C calls ours. */
 #include "entries.h"
 
 #include <stdlib.h>
@@ -280,4 +281,78 @@ const struct contender hand_kept = {
     .open = kept_open,
     NOTHING_AROUND,
     LOOKUPS_OF(kept),
+};
+
+/* ---- Called. ---- */
+
+#define OUT_OF_LINE static __attribute__((noinline))
+
+OUT_OF_LINE void called_enter(unsigned thread)
+{
+    kept_enter(thread);
+}
+
+OUT_OF_LINE void called_leave(unsigned thread)
+{
+    kept_leave(thread);
+}
+
+OUT_OF_LINE uint64_t called_find(unsigned thread, const struct key *key)
+{
+    return kept_find(thread, key);
+}
+
+OUT_OF_LINE unsigned called_walk(unsigned thread, struct copied row[MOST_ENTRIES])
+{
+    return kept_walk(thread, row);
+}
+
+LOOKUPS(called)
+
+OUT_OF_LINE uint64_t called_add(_Atomic uint64_t *word)
+{
+    return atomic_fetch_add(word, 1) + 1;
+}
+
+OUT_OF_LINE uint64_t called_subtract(_Atomic uint64_t *word)
+{
+    return atomic_fetch_sub(word, 1);
+}
+
+/* Whether the word was `held`. */
+OUT_OF_LINE int called_count_down(_Atomic uint64_t *word, uint64_t held)
+{
+    return atomic_compare_exchange_strong(word, &held, held - 1);
+}
+
+static uint64_t called_passives(unsigned cpu, uint64_t count)
+{
+    _Atomic uint64_t *word = passive_word(POINTED, cpu, entries - 1);
+    uint64_t right = 0;
+
+    for (uint64_t made = 0; made < count; made++) {
+        uint64_t held = called_add(word);
+
+        right += called_subtract(word) == held;
+    }
+    return right;
+}
+
+static uint64_t called_locals(unsigned cpu, uint64_t count)
+{
+    _Atomic uint64_t *word = count_word(POINTED, cpu, entries - 1);
+    uint64_t right = 0;
+
+    for (uint64_t made = 0; made < count; made++)
+        right += called_count_down(word, called_add(word));
+    return right;
+}
+
+const struct contender hand_called = {
+    .name = "hand-called",
+    .open = kept_open,
+    NOTHING_AROUND,
+    LOOKUPS_OF(called),
+    .passives = called_passives,
+    .locals = called_locals,
 };

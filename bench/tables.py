@@ -20,12 +20,16 @@ OPERATIONS = "lookup batch walk passive local read look_up absent get".split()
 AIMS = [line.split() for line in """\
 lookup from-C/hand-padded 1.25
 lookup from-C/hand-pointed 1.15
+lookup from-C/hand-called 1.15
 batch from-C/hand-padded 1.15
 batch from-C/hand-pointed 1.15
+batch from-C/hand-called 1.15
 batch from-C/urcu-memb 1.25
 walk from-C/urcu-memb 2.00
 passive from-C/hand-padded 1.15
+passive from-C/hand-called 1.15
 local from-C/hand-padded 1.25
+local from-C/hand-called 1.25
 lookup from-Rust/from-C 1.30
 batch from-Rust/from-C 1.30
 read from-C/section 1.30
