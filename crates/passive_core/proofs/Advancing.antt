@@ -5,7 +5,8 @@ use Rattle.std.proofs.lemmas.Bool.{cases_lt, cases_eq, eqb-true, eq-eqb, lt-ltb,
 use Rattle.std.proofs.lemmas.Option.{none-some, same_Some}
 use Rattle.passive_core.specs.Types.{Entry, Look, PassiveLook, Collect, TotalAdd, KeptSub, Reply, Done, Mark, Slot, Retired, Refusal, Stage, Grace, Passive, Local, Freed}
 use Rattle.passive_core.specs.Common.{AdvanceLeaves, Settles, Empties, Gathers, HoldersAreOpen, LeavesMarks, MarksPass, Passes, ClearBelow, Clears, MarksClear, SameBut, StageMarks, AdvanceMarks, StageLeaves, advance_answer, count_given_up, has_passive, is_open_since, is_snapshot, first_obstacle, stage_in, may_act}
-use Rattle.protocol.specs.Common.{AllClear, AllCollected, AllPassed, MarksGrow, Outcome, guard, some_outcome, narrow_step, after_look, after_look_passive, after_collect, after_total, after_kept_sub, after_vacate, may_collect, may_examine, may_look_passive, may_vacate, is_drainable, is_drained, is_iface_slot, keeps_rightly, Holds, one_if, held_at, at_rest, State, section_at, begin_at, count_at, kept_at, mark_at, passive_at, total_at, with_cell}
+use Rattle.protocol.specs.Common.{AllClear, AllCollected, AllPassed, MarksGrow, Outcome, Holds, one_if, held_at, at_rest, State, section_at, begin_at, count_at, kept_at, mark_at, passive_at, total_at, with_cell}
+use Rattle.protocol.specs.Events
 use Rattle.registry_values.specs.Common.{no_mark, least_below, or_next, mark_after_look, mark_after_passive_look, mark_after_collect, are_collected, has_changed, have_passed, is_even, stage_of, retired_slot, has_number, is_retired, slot_of, slot_at, bias}
 use Rattle.protocol.proofs.Occupied.{at_rest_tells, in_within, is_retired_tells, number_in, has_it, one_number, slot_found}
 use Rattle.protocol.proofs.counts.Bounds.{driver_positive, all_collected}
@@ -19,7 +20,7 @@ use Rattle.passive_core.proofs.Entering.{made_is}
 use Rattle.protocol.proofs.Either.{either}
 
 -- an event whose test passes is allowed
-pub guard_some : (b : Bool) (s : State) (r : Reply) → b ≡ true → IsSome (guard b (some_outcome s r))
+pub guard_some : (b : Bool) (s : State) (r : Reply) → b ≡ true → IsSome (Events.guard b (Events.some_outcome s r))
 guard_some true s r is = refl
 guard_some false s r is = absurd (let f : ◌≡◌ {A = Bool} false true = is in cc)
 
@@ -68,7 +69,7 @@ least_some p (suc n) c is = either (next_some (least_below p n) (p n) n c is)
 
 -- Looks
 
-pub examines : (s : State) (t c : ℕ) → at_rest s.due ≡ true → is_retired (slot_at s.slots t) ≡ true → c < s.settings.cpus → may_examine s t c ≡ true
+pub examines : (s : State) (t c : ℕ) → at_rest s.due ≡ true → is_retired (slot_at s.slots t) ≡ true → c < s.settings.cpus → Events.may_examine s t c ≡ true
 examines s t c rest gone lt = and_from (at_rest s.due) _ rest (and_from (nat_lt c s.settings.cpus) _ (lt-ltb c s.settings.cpus lt) gone)
 
 -- a look passes exactly where the section isn't the one of the snapshot
@@ -122,7 +123,7 @@ marks_pass_more a b d t x y = record {
   };
 }
 
-pub look_marks : (s : State) (t c : ℕ) → MarksPass s.marks (after_look s t c).marks t
+pub look_marks : (s : State) (t c : ℕ) → MarksPass s.marks (Events.after_look s t c).marks t
 look_marks s t c =
     let m : Mark = mark_at s.marks t c in
     record {
@@ -136,8 +137,8 @@ pub open_same : (s n : State) (t c : ℕ) → n ≡ record s { marks = n.marks }
 open_same s n t c only marks = rw (ap (λ (x : State). x.begins) only, ap (λ (x : State). x.section) only, (marks.here c).snapshot) refl
 
 pub look_is : (s n : State) (t c : ℕ) (r : Reply) → at_rest s.due ≡ true → is_retired (slot_at s.slots t) ≡ true → c < s.settings.cpus
-    → narrow_step s (Look (Some t) c) ≡ Some (record { state = n; reply = r }) → n ≡ after_look s t c
-look_is s n t c r rest gone lt made = made_is (may_examine s t c) (after_look s t c) n _ r (examines s t c rest gone lt) made
+    → Events.narrow_step s (Look (Some t) c) ≡ Some (record { state = n; reply = r }) → n ≡ Events.after_look s t c
+look_is s n t c r rest gone lt made = made_is (Events.may_examine s t c) (Events.after_look s t c) n _ r (examines s t c rest gone lt) made
 
 -- changes of marks alone, one after the other
 pub only_marks : (s m n : State) → m ≡ record s { marks = m.marks } → n ≡ record m { marks = n.marks } → n ≡ record s { marks = n.marks }
@@ -145,7 +146,7 @@ only_marks s m n first then = subst (λ (x : State). n ≡ record x { marks = n.
 
 -- Tests of the marks of all CPUs
 
-pub drainable_from : (s : State) (t : ℕ) → AllPassed s t → AllClear s t → is_drainable s t ≡ true
+pub drainable_from : (s : State) (t : ℕ) → AllPassed s t → AllClear s t → Events.is_drainable s t ≡ true
 drainable_from s t passed clear = and_from (have_passed s.settings.cpus (get_or s.marks t [])) _ (passed_from s t passed) (clear_from s t clear)
 
 -- Marks that grow
@@ -206,14 +207,14 @@ some_counted false clear is = absurd (let q : ◌≡◌ {A = Bool} false true = 
 pub clear_left : (s : State) (t c : ℕ) → (mark_at s.marks t c).clear ≡ true → true ≡ not (has_passive s t c)
 clear_left s t c clear = sym (ap not (clear_none (nat_lt 0 (passive_at s.passive c t)) (mark_at s.marks t c).clear clear))
 
-pub examines_passive : (s : State) (t c : ℕ) → at_rest s.due ≡ true → is_retired (slot_at s.slots t) ≡ true → AllPassed s t → c < s.settings.cpus → may_look_passive s t c ≡ true
-examines_passive s t c rest gone passed lt = and_from (may_examine s t c) _ (examines s t c rest gone lt) (passed_from s t passed)
+pub examines_passive : (s : State) (t c : ℕ) → at_rest s.due ≡ true → is_retired (slot_at s.slots t) ≡ true → AllPassed s t → c < s.settings.cpus → Events.may_look_passive s t c ≡ true
+examines_passive s t c rest gone passed lt = and_from (Events.may_examine s t c) _ (examines s t c rest gone lt) (passed_from s t passed)
 
 pub passive_look_is : (s n : State) (t c : ℕ) (r : Reply) → at_rest s.due ≡ true → is_retired (slot_at s.slots t) ≡ true → AllPassed s t → c < s.settings.cpus
-    → narrow_step s (PassiveLook t c) ≡ Some (record { state = n; reply = r }) → n ≡ after_look_passive s t c
-passive_look_is s n t c r rest gone passed lt made = made_is (may_look_passive s t c) (after_look_passive s t c) n _ r (examines_passive s t c rest gone passed lt) made
+    → Events.narrow_step s (PassiveLook t c) ≡ Some (record { state = n; reply = r }) → n ≡ Events.after_look_passive s t c
+passive_look_is s n t c r rest gone passed lt made = made_is (Events.may_look_passive s t c) (Events.after_look_passive s t c) n _ r (examines_passive s t c rest gone passed lt) made
 
-pub passive_look_marks : (s : State) (t c : ℕ) → MarksClear s.marks (after_look_passive s t c).marks t
+pub passive_look_marks : (s : State) (t c : ℕ) → MarksClear s.marks (Events.after_look_passive s t c).marks t
 passive_look_marks s t c =
     let m : Mark = mark_after_passive_look (mark_at s.marks t c) (passive_at s.passive c t) in
     record {
@@ -225,20 +226,20 @@ passive_look_marks s t c =
 -- Collections
 
 pub collects : (s : State) (t c : ℕ) → at_rest s.due ≡ true → is_retired (slot_at s.slots t) ≡ true → AllPassed s t → AllClear s t → c < s.settings.cpus → (mark_at s.marks t c).collected ≡ false
-    → may_collect s t c ≡ true
-collects s t c rest gone passed clear lt yet = and_from (may_examine s t c) _ (examines s t c rest gone lt) (and_from (is_drainable s t) _ (drainable_from s t passed clear) (ap not yet))
+    → Events.may_collect s t c ≡ true
+collects s t c rest gone passed clear lt yet = and_from (Events.may_examine s t c) _ (examines s t c rest gone lt) (and_from (Events.is_drainable s t) _ (drainable_from s t passed clear) (ap not yet))
 
 pub collect_is : (s n : State) (t c : ℕ) (r : Reply) → at_rest s.due ≡ true → is_retired (slot_at s.slots t) ≡ true → AllPassed s t → AllClear s t → c < s.settings.cpus
     → (mark_at s.marks t c).collected ≡ false
-    → narrow_step s (Collect t c) ≡ Some (record { state = n; reply = r }) → n ≡ after_collect s t c
-collect_is s n t c r rest gone passed clear lt yet made = made_is (may_collect s t c) (after_collect s t c) n _ r (collects s t c rest gone passed clear lt yet) made
+    → Events.narrow_step s (Collect t c) ≡ Some (record { state = n; reply = r }) → n ≡ Events.after_collect s t c
+collect_is s n t c r rest gone passed clear lt yet made = made_is (Events.may_collect s t c) (Events.after_collect s t c) n _ r (collects s t c rest gone passed clear lt yet) made
 
 -- a word was collected, and is to be added
-pub adds : (s m : State) (t c : ℕ) → m ≡ after_collect s t c
-    → narrow_step m (TotalAdd t) ≡ Some (record { state = after_total (after_collect s t c) t (total_at s.totals t + count_at s.counts c t - bias); reply = Done })
+pub adds : (s m : State) (t c : ℕ) → m ≡ Events.after_collect s t c
+    → Events.narrow_step m (TotalAdd t) ≡ Some (record { state = Events.after_total (Events.after_collect s t c) t (total_at s.totals t + count_at s.counts c t - bias); reply = Done })
 adds s m t c is = rw (is, eq-eqb t t refl) refl
 
-pub added : (s n : State) (t c : ℕ) → at_rest s.due ≡ true → n ≡ after_total (after_collect s t c) t (total_at s.totals t + count_at s.counts c t - bias) → Gathers s n t
+pub added : (s n : State) (t c : ℕ) → at_rest s.due ≡ true → n ≡ Events.after_total (Events.after_collect s t c) t (total_at s.totals t + count_at s.counts c t - bias) → Gathers s n t
 added s n t c rest is =
     let m : Mark = mark_after_collect (mark_at s.marks t c) in
     let v : ℕ = total_at s.totals t + count_at s.counts c t - bias in
@@ -273,15 +274,15 @@ gathered_words s t on gone all c =
 -- The end of a slot's use
 
 pub drained_from : (s : State) (t : ℕ) → at_rest s.due ≡ true → is_retired (slot_at s.slots t) ≡ true → AllPassed s t → AllClear s t → AllCollected s t → total_at s.totals t ≡ bias
-    → is_drained s t ≡ true
+    → Events.is_drained s t ≡ true
 drained_from s t rest gone passed clear all total =
-    and_from (at_rest s.due) _ rest (and_from (is_retired (slot_at s.slots t)) _ gone (and_from (is_drainable s t) _ (drainable_from s t passed clear)
+    and_from (at_rest s.due) _ rest (and_from (is_retired (slot_at s.slots t)) _ gone (and_from (Events.is_drainable s t) _ (drainable_from s t passed clear)
     (and_from (are_collected s.settings.cpus (get_or s.marks t [])) _ (collected_from s t all) (eq-eqb (total_at s.totals t) bias total))))
 
-pub vacates : (s : State) (t : ℕ) → kept_at s.keeps t ≡ None → is_drained s t ≡ true → may_vacate s t ≡ true
+pub vacates : (s : State) (t : ℕ) → kept_at s.keeps t ≡ None → Events.is_drained s t ≡ true → Events.may_vacate s t ≡ true
 vacates s t none drained = and_from (is_none (kept_at s.keeps t)) _ (ap is_none none) drained
 
-pub vacated : (s n : State) (t : ℕ) → Holds s → kept_at s.keeps t ≡ None → is_drained s t ≡ true → n ≡ after_vacate s t → Empties s n t
+pub vacated : (s n : State) (t : ℕ) → Holds s → kept_at s.keeps t ≡ None → Events.is_drained s t ≡ true → n ≡ Events.after_vacate s t → Empties s n t
 vacated s n t on none drained is =
     let kept : set s.keeps t None ≡ s.keeps = ap (λ (k : Option ℕ). set s.keeps t k) (sym none) ∙ set-get_or s.keeps t None in
     subst (λ (x : State). Empties s x t) (sym is) (record {
@@ -296,17 +297,17 @@ kept_slot s t d on kept =
     let has = on.kept_drivers.drivers t d kept in
     slot_found s.slots d (has.0, has.1, has.2, has.3)
 
-keeps_as_iface : (s : State) (t d : ℕ) → Holds s → kept_at s.keeps t ≡ Some d → is_drained s t ≡ true → is_iface_slot (slot_at s.slots t) ≡ true
+keeps_as_iface : (s : State) (t d : ℕ) → Holds s → kept_at s.keeps t ≡ Some d → Events.is_drained s t ≡ true → Events.is_iface_slot (slot_at s.slots t) ≡ true
 keeps_as_iface s t d on kept drained =
     let told = is_drained_tells s t on drained in
     let right = on.kept_drivers.rightly t told.1.0 (inr told.1.1) in
-    ap is_iface_slot told.1.1 ∙ subst (λ (k : Option ℕ). keeps_rightly k told.1.0.rec.kind ≡ true) kept right
+    ap Events.is_iface_slot told.1.1 ∙ subst (λ (k : Option ℕ). Events.keeps_rightly k told.1.0.rec.kind ≡ true) kept right
 
-pub gives_up : (s : State) (t d u : ℕ) → Holds s → kept_at s.keeps t ≡ Some d → slot_of s.slots d ≡ Some u → is_drained s t ≡ true
-    → narrow_step s (KeptSub t) ≡ Some (record { state = after_kept_sub s t u; reply = Done })
+pub gives_up : (s : State) (t d u : ℕ) → Holds s → kept_at s.keeps t ≡ Some d → slot_of s.slots d ≡ Some u → Events.is_drained s t ≡ true
+    → Events.narrow_step s (KeptSub t) ≡ Some (record { state = Events.after_kept_sub s t u; reply = Done })
 gives_up s t d u on kept of drained = rw (kept, of, keeps_as_iface s t d on kept drained, drained) refl
 
-pub gave_up : (s n : State) (t d u : ℕ) → Holds s → kept_at s.keeps t ≡ Some d → slot_of s.slots d ≡ Some u → is_drained s t ≡ true → n ≡ after_kept_sub s t u → Empties s n t
+pub gave_up : (s n : State) (t d u : ℕ) → Holds s → kept_at s.keeps t ≡ Some d → slot_of s.slots d ≡ Some u → Events.is_drained s t ≡ true → n ≡ Events.after_kept_sub s t u → Empties s n t
 gave_up s n t d u on kept of drained is =
     let told = is_drained_tells s t on drained in
     let some : 0 < total_at s.totals u = driver_positive s t d u on kept of drained in
@@ -387,7 +388,7 @@ settled_stage s m t n open_ passive stage first none only marks second clear is 
     rw (outside, unmet) is
 
 -- a word that was collected is marked so
-pub collected_there : (s n : State) (t c : ℕ) → Holds s → t < s.settings.slots → c < s.settings.cpus → n ≡ after_total (after_collect s t c) t (total_at s.totals t + count_at s.counts c t - bias)
+pub collected_there : (s n : State) (t c : ℕ) → Holds s → t < s.settings.slots → c < s.settings.cpus → n ≡ Events.after_total (Events.after_collect s t c) t (total_at s.totals t + count_at s.counts c t - bias)
     → (mark_at n.marks t c).collected ≡ true
 collected_there s n t c on lt low is = ap (λ (x : State). (mark_at x.marks t c).collected) is ∙ ap (λ (m : Mark). m.collected) (mark_there s t c (mark_after_collect (mark_at s.marks t c)) on lt low)
 

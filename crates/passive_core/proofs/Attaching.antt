@@ -14,7 +14,8 @@ use Rattle.registry_values.proofs.Answers as answers
 use Rattle.registry_values.proofs.Fit.{ranges}
 use Rattle.registry_values.proofs.Names.{names_are_keys}
 use Rattle.registry_values.proofs.Slots.{key_same, live_tells}
-use Rattle.protocol.specs.Common.{with_biases, at_rest, State, kept_at, local_at, no_words, row_at, total_at, Outcome, after_count_store, after_keep, after_publish, after_row_store, after_seeing, are_unused, entry_of, has_room, room_of, is_bias, is_driver_slot, is_prepared, keeps_rightly, may_keep, may_publish, may_write, number_standing, narrow_step, with_word, names_lawfully, words_of, Holds, SeatsShow, is_inside, after_snapshot, after_unpublish, guard, is_idle, is_snapshot_due, with_retired, snapshot_mark, some_outcome, with_link_past, DueHolds, section_at}
+use Rattle.protocol.specs.Common.{with_biases, at_rest, State, kept_at, local_at, no_words, row_at, total_at, Outcome, Holds, SeatsShow, DueHolds, section_at}
+use Rattle.protocol.specs.Events
 use Rattle.protocol.proofs.keeps.CountKeeps.{keep_keeps}
 use Rattle.protocol.proofs.keeps.ListKeeps.{may_write_tells}
 use Rattle.protocol.proofs.keeps.SectionKeeps.{none_from}
@@ -29,10 +30,10 @@ use Rattle.passive_core.proofs.Entering.{acting_on, made_is}
 -- The record words.
 
 -- a second word is stored in a row that was stored, in a slot or past them
-row_again : (rows : List RecordWords) (t : ℕ) (r : RecordWords) (k v : ℕ) → set (set rows t r) t (with_word (row_at (set rows t r) t) k v) ≡ set rows t (with_word r k v)
+row_again : (rows : List RecordWords) (t : ℕ) (r : RecordWords) (k v : ℕ) → set (set rows t r) t (Events.with_word (row_at (set rows t r) t) k v) ≡ set rows t (Events.with_word r k v)
 row_again rows t r k v = either (cases_lt t (length rows))
-    (λ lt. set-set rows t r (with_word (row_at (set rows t r) t) k v) ∙ ap (λ (x : RecordWords). set rows t (with_word x k v)) (get_or-set_same rows t r no_words lt))
-    (λ ge. set-set rows t r (with_word (row_at (set rows t r) t) k v) ∙ (set_past rows t (with_word (row_at (set rows t r) t) k v) ge ∙ sym (set_past rows t (with_word r k v) ge)))
+    (λ lt. set-set rows t r (Events.with_word (row_at (set rows t r) t) k v) ∙ ap (λ (x : RecordWords). set rows t (Events.with_word x k v)) (get_or-set_same rows t r no_words lt))
+    (λ ge. set-set rows t r (Events.with_word (row_at (set rows t r) t) k v) ∙ (set_past rows t (Events.with_word (row_at (set rows t r) t) k v) ge ∙ sym (set_past rows t (Events.with_word r k v) ge)))
 
 abbrev pub with_row : State → ℕ → RecordWords → State
 with_row s t r = record s { rows = set s.rows t r }
@@ -40,13 +41,13 @@ with_row s t r = record s { rows = set s.rows t r }
 pub row_first : (s : State) (t : ℕ) → s ≡ with_row s t (row_at s.rows t)
 row_first s t = ap (λ (rows : List RecordWords). record s { rows = rows }) (sym (set-get_or s.rows t no_words))
 
-pub row_next : (s now next : State) (t k v : ℕ) (r : RecordWords) → now ≡ with_row s t r → next ≡ after_row_store now t k v → next ≡ with_row s t (with_word r k v)
+pub row_next : (s now next : State) (t k v : ℕ) (r : RecordWords) → now ≡ with_row s t r → next ≡ Events.after_row_store now t k v → next ≡ with_row s t (Events.with_word r k v)
 row_next s now next t k v r at is =
-    is ∙ (ap (λ (x : State). after_row_store x t k v) at ∙ ap (λ (rows : List RecordWords). record s { rows = rows }) (row_again s.rows t r k v))
+    is ∙ (ap (λ (x : State). Events.after_row_store x t k v) at ∙ ap (λ (rows : List RecordWords). record s { rows = rows }) (row_again s.rows t r k v))
 
 -- The count words.
 
-pub count_store_allowed : (s : State) (t c v : ℕ) → may_write s t ≡ true → c < s.settings.cpus → narrow_step s (StoreSlot t (5 + c) v) ≡ Some (record { state = after_count_store s t c v; reply = Done })
+pub count_store_allowed : (s : State) (t c v : ℕ) → Events.may_write s t ≡ true → c < s.settings.cpus → Events.narrow_step s (StoreSlot t (5 + c) v) ≡ Some (record { state = Events.after_count_store s t c v; reply = Done })
 count_store_allowed s t c v write lt =
     let many : nat_lt (5 + c) 5 ≡ false = le-ltb (5 + c) 5 (omega arith) in
     let same : 5 + c - 5 ≡ c = omega arith in
@@ -67,7 +68,7 @@ with_counts s t c = record s { counts = set s.counts t (with_biases c (get_or s.
 pub counts_first : (s : State) (t : ℕ) → s ≡ with_counts s t 0
 counts_first s t = ap (λ (counts : List (List ℕ)). record s { counts = counts }) (sym (set-get_or s.counts t []))
 
-pub counts_next : (s : State) (t c : ℕ) → t < length s.counts → c < length (get_or s.counts t []) → after_count_store (with_counts s t c) t c bias ≡ with_counts s t (c + 1)
+pub counts_next : (s : State) (t c : ℕ) → t < length s.counts → c < length (get_or s.counts t []) → Events.after_count_store (with_counts s t c) t c bias ≡ with_counts s t (c + 1)
 counts_next s t c low lt =
     let row = get_or s.counts t [] in
     let here : get_or (set s.counts t (with_biases c row)) t [] ≡ with_biases c row = get_or-set_same s.counts t (with_biases c row) [] low in
@@ -76,20 +77,20 @@ counts_next s t c low lt =
     (set-set s.counts t (with_biases c row) (set (get_or (set s.counts t (with_biases c row)) t []) c bias) ∙ ap (set s.counts t) more)
 
 -- the places that are stored are there
-pub count_places : (s : State) (t c : ℕ) → Holds s → may_write s t ≡ true → c < s.settings.cpus → (t < length s.counts) × (c < length (get_or s.counts t []))
+pub count_places : (s : State) (t c : ℕ) → Holds s → Events.may_write s t ≡ true → c < s.settings.cpus → (t < length s.counts) × (c < length (get_or s.counts t []))
 count_places s t c on write lt =
     let told = may_write_tells s t on.shape write in
     let low : t < length s.counts = omega (arith, told.1, on.shape.slots, on.shape.counts) in
     (low, omega (arith, on.shape.count_rows t low, lt, (ranges s.settings on.fit).cpus))
 
-pub counts_stored : (s now next : State) (r : Reply) (t c : ℕ) → Holds s → may_write s t ≡ true → c < s.settings.cpus → now ≡ with_counts s t c
-    → narrow_step now (StoreSlot t (5 + c) bias) ≡ Some (record { state = next; reply = r }) → next ≡ with_counts s t (c + 1)
+pub counts_stored : (s now next : State) (r : Reply) (t c : ℕ) → Holds s → Events.may_write s t ≡ true → c < s.settings.cpus → now ≡ with_counts s t c
+    → Events.narrow_step now (StoreSlot t (5 + c) bias) ≡ Some (record { state = next; reply = r }) → next ≡ with_counts s t (c + 1)
 counts_stored s now next r t c on write lt at is =
     let places = count_places s t c on write lt in
     let made = count_store_allowed (with_counts s t c) t c bias write lt in
-    let here = subst (λ (x : State). narrow_step x (StoreSlot t (5 + c) bias) ≡ Some (record { state = next; reply = r })) at is in
-    let both : Some (record { state = next; reply = r }) ≡ Some (record { state = after_count_store (with_counts s t c) t c bias; reply = Done }) = sym here ∙ made in
-    let same : next ≡ after_count_store (with_counts s t c) t c bias = ap state_or both in
+    let here = subst (λ (x : State). Events.narrow_step x (StoreSlot t (5 + c) bias) ≡ Some (record { state = next; reply = r })) at is in
+    let both : Some (record { state = next; reply = r }) ≡ Some (record { state = Events.after_count_store (with_counts s t c) t c bias; reply = Done }) = sym here ∙ made in
+    let same : next ≡ Events.after_count_store (with_counts s t c) t c bias = ap state_or both in
     same ∙ counts_next s t c places.0 places.1
   where
     state_or : Option Outcome → State
@@ -114,14 +115,14 @@ pub record IsGiven (s : State) (rec : Record) (e : Entry) : Type 0 where
   pub entry : e ≡ next_entry (length s.history) rec e.slot
   pub free : is_taken (key_of_record rec) s.slots ≡ false
   pub fit : first_fit s ≡ Some e.slot
-  pub room : has_room s ≡ true
+  pub room : Events.has_room s ≡ true
 
 pub given_tells : (s : State) (rec : Record) (e : Entry) → given_entry s rec ≡ Ok e → IsGiven s rec e
 given_tells s rec e is =
-    let told = answers.given_tells (is_taken (key_of_record rec) s.slots) (first_fit s) (room_of s) rec e is in
+    let told = answers.given_tells (is_taken (key_of_record rec) s.slots) (first_fit s) (Events.room_of s) rec e is in
     record { entry = told.entry; free = told.free; fit = told.place; room = told.fits }
 
-pub given_writes : (s : State) (rec : Record) (e : Entry) → Holds s → at_rest s.due ≡ true → IsGiven s rec e → may_write s e.slot ≡ true
+pub given_writes : (s : State) (rec : Record) (e : Entry) → Holds s → at_rest s.due ≡ true → IsGiven s rec e → Events.may_write s e.slot ≡ true
 given_writes s rec e on rest given =
     let fit = first_fit_tells s e.slot on given.fit in
     and_from (at_rest s.due) (nat_lt e.slot s.settings.slots && is_vacant (slot_at s.slots e.slot)) rest
@@ -136,56 +137,56 @@ answer_refused inside unfit x y given g f caller fit same is = subst (λ (r : Re
 -- Linking.
 
 words_read : (number slot high low value : ℕ) (kind : Kind) → are_key_words high low ≡ true
-    → entry_of slot (words_of (record { number = number; slot = slot; rec = record { kind = kind; name = record { high = high; low = low }; value = value } }))
+    → Events.entry_of slot (Events.words_of (record { number = number; slot = slot; rec = record { kind = kind; name = record { high = high; low = low }; value = value } }))
     ≡ Some (record { number = number; slot = slot; rec = record { kind = kind; name = record { high = high; low = low }; value = value } })
 words_read number slot high low value Iface key = rw key refl
 words_read number slot high low value Driver key = rw key refl
 
-all_biases : (n : ℕ) → list_all is_bias (replicate n bias) ≡ true
+all_biases : (n : ℕ) → list_all Events.is_bias (replicate n bias) ≡ true
 all_biases zero = refl
 all_biases (suc n) = all_biases n
 
 -- the first words of a row that was stored are all the bias
-biases_stored : (cpus : ℕ) (row : List ℕ) → list_all is_bias (take cpus (with_biases cpus row)) ≡ true
+biases_stored : (cpus : ℕ) (row : List ℕ) → list_all Events.is_bias (take cpus (with_biases cpus row)) ≡ true
 biases_stored cpus row =
     let size = length-replicate cpus bias in
     let first : take cpus (with_biases cpus row) ≡ replicate cpus bias =
     take-append-le cpus (replicate cpus bias) (drop cpus row) (omega (arith, size)) ∙ take-replicate cpus cpus bias (omega arith) in
-    ap (list_all is_bias) first ∙ all_biases cpus
+    ap (list_all Events.is_bias) first ∙ all_biases cpus
 
 -- A prepared entry may be linked: s is the state before its words are stored.
-pub prepared_links : (s : State) (e : Entry) → Holds s → may_write s e.slot ≡ true → e.number ≡ length s.history + 1 → IsTrue (is_lawful e.rec.name)
-    → is_taken (key_of e) s.slots ≡ false → has_room s ≡ true → keeps_rightly (kept_at s.keeps e.slot) e.rec.kind ≡ true
-    → narrow_step (with_prepared s e) (Publish e.slot) ≡ Some (record { state = after_publish (with_prepared s e) e.slot e; reply = Done })
+pub prepared_links : (s : State) (e : Entry) → Holds s → Events.may_write s e.slot ≡ true → e.number ≡ length s.history + 1 → IsTrue (is_lawful e.rec.name)
+    → is_taken (key_of e) s.slots ≡ false → Events.has_room s ≡ true → Events.keeps_rightly (kept_at s.keeps e.slot) e.rec.kind ≡ true
+    → Events.narrow_step (with_prepared s e) (Publish e.slot) ≡ Some (record { state = Events.after_publish (with_prepared s e) e.slot e; reply = Done })
 prepared_links s e on write number lawful free room keeps =
     let told = may_write_tells s e.slot on.shape write in
-    let row : row_at (with_prepared s e).rows e.slot ≡ words_of e = get_or-set_same s.rows e.slot (words_of e) no_words (omega (arith, told.1, on.shape.slots, on.shape.rows)) in
-    let entry : entry_of e.slot (row_at (with_prepared s e).rows e.slot) ≡ Some e =
-    ap (entry_of e.slot) row ∙ words_read e.number e.slot e.rec.name.high e.rec.name.low e.rec.value e.rec.kind (names_are_keys e.rec.name lawful) in
-    let named : names_lawfully (with_prepared s e) (Publish e.slot) ≡ true = ap (λ (r : RecordWords). are_name_words r.high r.low) row ∙ lawful in
+    let row : row_at (with_prepared s e).rows e.slot ≡ Events.words_of e = get_or-set_same s.rows e.slot (Events.words_of e) no_words (omega (arith, told.1, on.shape.slots, on.shape.rows)) in
+    let entry : Events.entry_of e.slot (row_at (with_prepared s e).rows e.slot) ≡ Some e =
+    ap (Events.entry_of e.slot) row ∙ words_read e.number e.slot e.rec.name.high e.rec.name.low e.rec.value e.rec.kind (names_are_keys e.rec.name lawful) in
+    let named : Events.names_lawfully (with_prepared s e) (Publish e.slot) ≡ true = ap (λ (r : RecordWords). are_name_words r.high r.low) row ∙ lawful in
     let numbered : (e.number == length s.history + 1) ≡ true = eq-eqb e.number (length s.history + 1) number in
     let counts : get_or (with_prepared s e).counts e.slot [] ≡ with_biases s.settings.cpus (get_or s.counts e.slot []) =
     get_or-set_same s.counts e.slot (with_biases s.settings.cpus (get_or s.counts e.slot [])) [] (omega (arith, told.1, on.shape.slots, on.shape.counts)) in
-    let biased : list_all is_bias (take s.settings.cpus (get_or (with_prepared s e).counts e.slot [])) ≡ true =
-    ap (λ (r : List ℕ). list_all is_bias (take s.settings.cpus r)) counts ∙ biases_stored s.settings.cpus (get_or s.counts e.slot []) in
+    let biased : list_all Events.is_bias (take s.settings.cpus (get_or (with_prepared s e).counts e.slot [])) ≡ true =
+    ap (λ (r : List ℕ). list_all Events.is_bias (take s.settings.cpus r)) counts ∙ biases_stored s.settings.cpus (get_or s.counts e.slot []) in
     let total : (total_at s.totals e.slot == bias) ≡ true = eq-eqb (total_at s.totals e.slot) bias (on.balance.vacant e.slot told.1 told.2) in
     let link : (get_or (with_prepared s e).next e.slot 0 == s.head) ≡ true =
     eq-eqb (get_or (with_prepared s e).next e.slot 0) s.head (get_or-set_same s.next e.slot s.head 0 (omega (arith, told.1, on.shape.slots, on.shape.links))) in
-    let unused : are_unused (with_prepared s e) e.slot ≡ true =
-    and_from (list_all is_bias (take s.settings.cpus (get_or (with_prepared s e).counts e.slot []))) (total_at s.totals e.slot == bias) biased total in
-    let ready : is_prepared (with_prepared s e) e.slot e.rec.kind ≡ true =
-    and_from (get_or (with_prepared s e).next e.slot 0 == s.head) (are_unused (with_prepared s e) e.slot && keeps_rightly (kept_at s.keeps e.slot) e.rec.kind) link
-    (and_from (are_unused (with_prepared s e) e.slot) (keeps_rightly (kept_at s.keeps e.slot) e.rec.kind) unused keeps) in
+    let unused : Events.are_unused (with_prepared s e) e.slot ≡ true =
+    and_from (list_all Events.is_bias (take s.settings.cpus (get_or (with_prepared s e).counts e.slot []))) (total_at s.totals e.slot == bias) biased total in
+    let ready : Events.is_prepared (with_prepared s e) e.slot e.rec.kind ≡ true =
+    and_from (get_or (with_prepared s e).next e.slot 0 == s.head) (Events.are_unused (with_prepared s e) e.slot && Events.keeps_rightly (kept_at s.keeps e.slot) e.rec.kind) link
+    (and_from (Events.are_unused (with_prepared s e) e.slot) (Events.keeps_rightly (kept_at s.keeps e.slot) e.rec.kind) unused keeps) in
     let name : not (is_taken (key_of e) s.slots) ≡ true = ap not free in
-    let fit = has_room s && is_prepared (with_prepared s e) e.slot e.rec.kind in
-    let may : may_publish (with_prepared s e) e.slot e ≡ true =
-    and_from (may_write s e.slot) (e.number == length s.history + 1 && (not (is_taken (key_of e) s.slots) && fit)) write
+    let fit = Events.has_room s && Events.is_prepared (with_prepared s e) e.slot e.rec.kind in
+    let may : Events.may_publish (with_prepared s e) e.slot e ≡ true =
+    and_from (Events.may_write s e.slot) (e.number == length s.history + 1 && (not (is_taken (key_of e) s.slots) && fit)) write
     (and_from (e.number == length s.history + 1) (not (is_taken (key_of e) s.slots) && fit) numbered
     (and_from (not (is_taken (key_of e) s.slots)) fit name
-    (and_from (has_room s) (is_prepared (with_prepared s e) e.slot e.rec.kind) room ready))) in
+    (and_from (Events.has_room s) (Events.is_prepared (with_prepared s e) e.slot e.rec.kind) room ready))) in
     links_if (with_prepared s e) e.slot e named entry may
   where
-    links_if : (s : State) (t : ℕ) (e : Entry) → names_lawfully s (Publish t) ≡ true → entry_of t (row_at s.rows t) ≡ Some e → may_publish s t e ≡ true → narrow_step s (Publish t) ≡ Some (record { state = after_publish s t e; reply = Done })
+    links_if : (s : State) (t : ℕ) (e : Entry) → Events.names_lawfully s (Publish t) ≡ true → Events.entry_of t (row_at s.rows t) ≡ Some e → Events.may_publish s t e ≡ true → Events.narrow_step s (Publish t) ≡ Some (record { state = Events.after_publish s t e; reply = Done })
     links_if s t e named entry may = rw (named, entry, may) refl
 
 -- What an attach puts back.
@@ -194,7 +195,7 @@ prepared_links s e on write number lawful free room keeps =
 pub words_restored : (s : State) (e : Entry) → with_attach_undone (with_prepared (all_seated s) e) e.slot (words_before s e.slot) ≡ s
 words_restored s e =
     let t = e.slot in
-    let rows : set (set s.rows t (words_of e)) t (row_at s.rows t) ≡ s.rows = set-set s.rows t (words_of e) (row_at s.rows t) ∙ set-get_or s.rows t no_words in
+    let rows : set (set s.rows t (Events.words_of e)) t (row_at s.rows t) ≡ s.rows = set-set s.rows t (Events.words_of e) (row_at s.rows t) ∙ set-get_or s.rows t no_words in
     let row = get_or s.counts t [] in
     let counts : set (set s.counts t (with_biases s.settings.cpus row)) t row ≡ s.counts = set-set s.counts t (with_biases s.settings.cpus row) row ∙ set-get_or s.counts t [] in
     let next : set (set s.next t s.head) t (get_or s.next t 0) ≡ s.next = set-set s.next t s.head (get_or s.next t 0) ∙ set-get_or s.next t 0 in
@@ -215,25 +216,25 @@ seated_keeps s on =
 
 -- an entry's words may be stored, and then it may be linked
 pub record MayLink (s : State) (e : Entry) : Type 0 where
-  pub writes : may_write s e.slot ≡ true
-  pub links : narrow_step (with_prepared s e) (Publish e.slot) ≡ Some (record { state = after_publish (with_prepared s e) e.slot e; reply = Done })
+  pub writes : Events.may_write s e.slot ≡ true
+  pub links : Events.narrow_step (with_prepared s e) (Publish e.slot) ≡ Some (record { state = Events.after_publish (with_prepared s e) e.slot e; reply = Done })
 
 -- what a given entry is, in a state with the same history and slots
-may_link : (s : State) (rec : Record) (e : Entry) → Holds s → may_write s e.slot ≡ true → e ≡ next_entry (length s.history) rec e.slot → is_taken (key_of_record rec) s.slots ≡ false
-    → has_room s ≡ true
-    → IsTrue (is_lawful rec.name) → keeps_rightly (kept_at s.keeps e.slot) rec.kind ≡ true → MayLink s e
+may_link : (s : State) (rec : Record) (e : Entry) → Holds s → Events.may_write s e.slot ≡ true → e ≡ next_entry (length s.history) rec e.slot → is_taken (key_of_record rec) s.slots ≡ false
+    → Events.has_room s ≡ true
+    → IsTrue (is_lawful rec.name) → Events.keeps_rightly (kept_at s.keeps e.slot) rec.kind ≡ true → MayLink s e
 may_link s rec e on writes is free room lawful keeps =
     let same : e.rec ≡ rec = ap (λ (x : Entry). x.rec) is in
     assumption (
     prepared_links s e on writes (ap (λ (x : Entry). x.number) is)
     (subst (λ (r : Record). IsTrue (is_lawful r.name)) (sym same) lawful)
     (ap (λ (r : Record). is_taken (key_of_record r) s.slots) same ∙ free) room
-    (ap (λ (r : Record). keeps_rightly (kept_at s.keeps e.slot) r.kind) same ∙ keeps)
+    (ap (λ (r : Record). Events.keeps_rightly (kept_at s.keeps e.slot) r.kind) same ∙ keeps)
     )
 
-driver_keeps : (kept : Option ℕ) (kind : Kind) → kept ≡ None → is_iface kind ≡ false → keeps_rightly kept kind ≡ true
+driver_keeps : (kept : Option ℕ) (kind : Kind) → kept ≡ None → is_iface kind ≡ false → Events.keeps_rightly kept kind ≡ true
 driver_keeps kept Iface none other = absurd (let q : ◌≡◌ {A = Bool} true false = other in cc)
-driver_keeps kept Driver none other = ap (λ (o : Option ℕ). keeps_rightly o Driver) none
+driver_keeps kept Driver none other = ap (λ (o : Option ℕ). Events.keeps_rightly o Driver) none
 
 pub driver_links : (s : State) (rec : Record) (e : Entry) → Holds s → at_rest s.due ≡ true → given_entry s rec ≡ Ok e → is_iface rec.kind ≡ false → IsTrue (is_lawful rec.name)
     → MayLink (all_seated s) e
@@ -251,27 +252,27 @@ call_restored s room begun ready now e before same kept seats words stays =
     ∙ (ap (with_attach_undone (with_prepared (all_seated s) e) e.slot) (kept ∙ ap (λ (x : State). words_before x e.slot) same) ∙ words_restored s e)
 
 -- storing and linking an entry and seeing it leaves who may act
-pub call_acts : (begun ready made now : State) (e : Entry) (c d : ℕ) → ready ≡ with_prepared begun e → made ≡ after_publish ready e.slot e → now ≡ after_seeing made c → may_act begun d ≡ true
+pub call_acts : (begun ready made now : State) (e : Entry) (c d : ℕ) → ready ≡ with_prepared begun e → made ≡ Events.after_publish ready e.slot e → now ≡ Events.after_seeing made c → may_act begun d ≡ true
     → may_act now d ≡ true
 call_acts begun ready made now e c d words links sees may =
-    ap (λ (x : State). may_act x d) (sees ∙ ap (λ (x : State). after_seeing x c) (links ∙ ap (λ (x : State). after_publish x e.slot e) words)) ∙ may
+    ap (λ (x : State). may_act x d) (sees ∙ ap (λ (x : State). Events.after_seeing x c) (links ∙ ap (λ (x : State). Events.after_publish x e.slot e) words)) ∙ may
 
 -- Interfaces: the reference that the slot takes over.
 
-number_from : (slots : List Slot) (p : LocalPlace) → is_driver_number slots (number_standing p) ≡ true → (n : ℕ) × (p ≡ Standing n) × (is_driver_in slots (slot_of slots n) ≡ true)
+number_from : (slots : List Slot) (p : LocalPlace) → is_driver_number slots (Events.number_standing p) ≡ true → (n : ℕ) × (p ≡ Standing n) × (is_driver_in slots (slot_of slots n) ≡ true)
 number_from slots (Standing n) is = (n, refl, is)
 number_from slots _ is = absurd (let q : ◌≡◌ {A = Bool} false true = is in cc)
 
-driver_from : (slots : List Slot) (place : Option ℕ) → is_driver_in slots place ≡ true → (u : ℕ) × (place ≡ Some u) × (is_driver_slot (slot_at slots u) ≡ true)
+driver_from : (slots : List Slot) (place : Option ℕ) → is_driver_in slots place ≡ true → (u : ℕ) × (place ≡ Some u) × (Events.is_driver_slot (slot_at slots u) ≡ true)
 driver_from slots None is = absurd (let q : ◌≡◌ {A = Bool} false true = is in cc)
 driver_from slots (Some u) is = (u, refl, is)
 
-iface_keeps : (n : ℕ) (kind : Kind) → is_iface kind ≡ true → keeps_rightly (Some n) kind ≡ true
+iface_keeps : (n : ℕ) (kind : Kind) → is_iface kind ≡ true → Events.keeps_rightly (Some n) kind ≡ true
 iface_keeps n kind is = is
 
 -- the slot of e may take the reference over, and then e may be linked
 pub record MayPlug (s : State) (e : Entry) (id : ℕ) : Type 0 where
-  pub writes : may_write s e.slot ≡ true
+  pub writes : Events.may_write s e.slot ≡ true
   pub empty : kept_at s.keeps e.slot ≡ None
   pub holds : Holds (with_reference_kept s e.slot id)
   pub links : MayLink (with_reference_kept (all_seated s) e.slot id) e
@@ -289,19 +290,19 @@ iface_links s rec e id on rest is driver iface lawful =
     let at : local_at s.locals id ≡ Standing n = number.1 in
     let place = driver_from s.slots (slot_of s.slots n) number.2 in
     let u : ℕ = place.0 in
-    let may : may_keep s t u ≡ true = and_from (may_write s t) (is_none (kept_at s.keeps t) && is_driver_slot (slot_at s.slots u)) writes
-    (and_from (is_none (kept_at s.keeps t)) (is_driver_slot (slot_at s.slots u)) (ap is_none fit.2) place.2) in
-    let kept : with_reference_kept s t id ≡ after_keep s t id n = ap (λ (o : Option ℕ). record s { locals = set s.locals id Free; keeps = set s.keeps t o }) (ap number_standing at) in
+    let may : Events.may_keep s t u ≡ true = and_from (Events.may_write s t) (is_none (kept_at s.keeps t) && Events.is_driver_slot (slot_at s.slots u)) writes
+    (and_from (is_none (kept_at s.keeps t)) (Events.is_driver_slot (slot_at s.slots u)) (ap is_none fit.2) place.2) in
+    let kept : with_reference_kept s t id ≡ Events.after_keep s t id n = ap (λ (o : Option ℕ). record s { locals = set s.locals id Free; keeps = set s.keeps t o }) (ap Events.number_standing at) in
     let holds : Holds (with_reference_kept s t id) = subst Holds (sym kept) (keep_keeps s t id n u on at place.1 may) in
     let now : kept_at (with_reference_kept s t id).keeps t ≡ Some n =
-    get_or-set_same s.keeps t (number_standing (local_at s.locals id)) None (omega (arith, fit.0, on.shape.keeps)) ∙ ap number_standing at in
-    let rightly : keeps_rightly (kept_at (with_reference_kept s t id).keeps t) rec.kind ≡ true = ap (λ (o : Option ℕ). keeps_rightly o rec.kind) now ∙ iface_keeps n rec.kind iface in
+    get_or-set_same s.keeps t (Events.number_standing (local_at s.locals id)) None (omega (arith, fit.0, on.shape.keeps)) ∙ ap Events.number_standing at in
+    let rightly : Events.keeps_rightly (kept_at (with_reference_kept s t id).keeps t) rec.kind ≡ true = ap (λ (o : Option ℕ). Events.keeps_rightly o rec.kind) now ∙ iface_keeps n rec.kind iface in
     assumption (may_link (with_reference_kept (all_seated s) t id) rec e (seated_keeps (with_reference_kept s t id) holds) writes given.entry given.free given.room lawful rightly)
 
 -- the reference has its place again
 reference_restored : (s : State) (t id : ℕ) → kept_at s.keeps t ≡ None → with_reference_given_back (with_reference_kept s t id) t id (local_at s.locals id) ≡ s
 reference_restored s t id empty =
-    let x = number_standing (local_at s.locals id) in
+    let x = Events.number_standing (local_at s.locals id) in
     let locals : set (set s.locals id Free) id (local_at s.locals id) ≡ s.locals = set-set s.locals id Free (local_at s.locals id) ∙ set-get_or s.locals id Free in
     let keeps : set (set s.keeps t x) t None ≡ s.keeps = set-set s.keeps t x None ∙ (ap (set s.keeps t) (sym empty) ∙ set-get_or s.keeps t None) in
     ap (λ (l : List LocalPlace). record s { locals = l; keeps = set (set s.keeps t x) t None }) locals
@@ -371,7 +372,7 @@ pub found_live : (s : State) (found : Option Entry) (e : Entry) → found ≡ So
 found_live s found e is live = subst (λ (o : Option Entry). IfSome o (λ f. slot_at s.slots f.slot ≡ Live f)) is live
 
 -- a detach is refused inside a section, or where the lookup finds nothing
-pub refused_rightly : (s : State) (c : ℕ) (key : Key) (inside : Bool) (found : Option Entry) (f : Refusal) → is_inside s c ≡ inside → IsLookupNow s key found
+pub refused_rightly : (s : State) (c : ℕ) (key : Key) (inside : Bool) (found : Option Entry) (f : Refusal) → Events.is_inside s c ≡ inside → IsLookupNow s key found
     → ◌≡◌ {A = Result Entry Refusal} (Err f) (detach_answer inside found) → IsDetachRefusal s c key f
 refused_rightly s c key true found f in_section lookup is = subst (IsDetachRefusal s c key) (same_refusal Inside f (sym is)) in_section
 refused_rightly s c key false None f outside lookup is = subst (IsDetachRefusal s c key) (same_refusal NotFound f (sym is)) (outside, lookup)
@@ -379,18 +380,18 @@ refused_rightly s c key false (Some e) f outside lookup is = absurd (let q : ◌
 
 -- one more mark of a row whose first k are the snapshots
 row_more : (xs : List ℕ) (k : ℕ) → k < length xs → k < MOST_CPUS
-    → set (map snapshot_mark (take k xs) ++ replicate (MOST_CPUS - k) no_mark) k (snapshot_mark (get_or xs k 0)) ≡ map snapshot_mark (take (k + 1) xs) ++ replicate (MOST_CPUS - (k + 1)) no_mark
+    → set (map Events.snapshot_mark (take k xs) ++ replicate (MOST_CPUS - k) no_mark) k (Events.snapshot_mark (get_or xs k 0)) ≡ map Events.snapshot_mark (take (k + 1) xs) ++ replicate (MOST_CPUS - (k + 1)) no_mark
 row_more xs k lt small =
     let rest : MOST_CPUS - k ≡ suc (MOST_CPUS - (k + 1)) = omega arith in
-    let reach : length (map snapshot_mark (take k xs)) ≡ k = length-map (take k xs) snapshot_mark ∙ length-take-le k xs (omega arith) in
-    ap (λ (n : ℕ). set (map snapshot_mark (take k xs) ++ replicate n no_mark) k (snapshot_mark (get_or xs k 0))) rest
-    ∙ (set_at (map snapshot_mark (take k xs)) no_mark (replicate (MOST_CPUS - (k + 1)) no_mark) (snapshot_mark (get_or xs k 0)) k reach
-    ∙ (sym (append_assoc (map snapshot_mark (take k xs)) (snapshot_mark (get_or xs k 0) ∷ []) (replicate (MOST_CPUS - (k + 1)) no_mark))
-    ∙ ap (λ (row : List Mark). row ++ replicate (MOST_CPUS - (k + 1)) no_mark) (sym (map_more snapshot_mark xs k 0 lt))))
+    let reach : length (map Events.snapshot_mark (take k xs)) ≡ k = length-map (take k xs) Events.snapshot_mark ∙ length-take-le k xs (omega arith) in
+    ap (λ (n : ℕ). set (map Events.snapshot_mark (take k xs) ++ replicate n no_mark) k (Events.snapshot_mark (get_or xs k 0))) rest
+    ∙ (set_at (map Events.snapshot_mark (take k xs)) no_mark (replicate (MOST_CPUS - (k + 1)) no_mark) (Events.snapshot_mark (get_or xs k 0)) k reach
+    ∙ (sym (append_assoc (map Events.snapshot_mark (take k xs)) (Events.snapshot_mark (get_or xs k 0) ∷ []) (replicate (MOST_CPUS - (k + 1)) no_mark))
+    ∙ ap (λ (row : List Mark). row ++ replicate (MOST_CPUS - (k + 1)) no_mark) (sym (map_more Events.snapshot_mark xs k 0 lt))))
 
 -- the snapshots of the CPUs below k for t were taken
 abbrev pub row_so_far : State → ℕ → List Mark
-row_so_far s k = map snapshot_mark (take k s.section) ++ replicate (MOST_CPUS - k) no_mark
+row_so_far s k = map Events.snapshot_mark (take k s.section) ++ replicate (MOST_CPUS - k) no_mark
 
 abbrev pub due_from : State → ℕ → ℕ → Due
 due_from s t k = if nat_lt k s.settings.cpus then Snapshots t k else Rest
@@ -411,15 +412,15 @@ pub snapping_ends : (s : State) (t : ℕ) → Holds s → snapping s t s.setting
 snapping_ends s t on =
     let none : nat_lt s.settings.cpus s.settings.cpus ≡ false = le-ltb s.settings.cpus s.settings.cpus (omega arith) in
     let all : take s.settings.cpus s.section ≡ s.section = take_all s.settings.cpus s.section (omega (arith, on.shape.sections)) in
-    λ i. record s { marks = set s.marks t (map snapshot_mark (all i) ++ replicate (MOST_CPUS - s.settings.cpus) no_mark); due = if none i then Snapshots t s.settings.cpus else Rest }
+    λ i. record s { marks = set s.marks t (map Events.snapshot_mark (all i) ++ replicate (MOST_CPUS - s.settings.cpus) no_mark); due = if none i then Snapshots t s.settings.cpus else Rest }
 
 -- and the next one
-pub snap_more : (s : State) (t k : ℕ) → t < length s.marks → k < length s.section → k < MOST_CPUS → after_snapshot (snapping s t k) t k ≡ snapping s t (k + 1)
+pub snap_more : (s : State) (t k : ℕ) → t < length s.marks → k < length s.section → k < MOST_CPUS → Events.after_snapshot (snapping s t k) t k ≡ snapping s t (k + 1)
 snap_more s t k lt within small =
     let row : get_or (set s.marks t (row_so_far s k)) t [] ≡ row_so_far s k = get_or-set_same s.marks t (row_so_far s k) [] lt in
-    let marks : set (set s.marks t (row_so_far s k)) t (set (get_or (set s.marks t (row_so_far s k)) t []) k (snapshot_mark (section_at s k))) ≡ set s.marks t (row_so_far s (k + 1)) =
-    set-set s.marks t (row_so_far s k) (set (get_or (set s.marks t (row_so_far s k)) t []) k (snapshot_mark (section_at s k)))
-    ∙ ap (set s.marks t) (ap (λ (r : List Mark). set r k (snapshot_mark (section_at s k))) row ∙ row_more s.section k within small) in
+    let marks : set (set s.marks t (row_so_far s k)) t (set (get_or (set s.marks t (row_so_far s k)) t []) k (Events.snapshot_mark (section_at s k))) ≡ set s.marks t (row_so_far s (k + 1)) =
+    set-set s.marks t (row_so_far s k) (set (get_or (set s.marks t (row_so_far s k)) t []) k (Events.snapshot_mark (section_at s k)))
+    ∙ ap (set s.marks t) (ap (λ (r : List Mark). set r k (Events.snapshot_mark (section_at s k))) row ∙ row_more s.section k within small) in
     ap (λ (m : List (List Mark)). record s { marks = m; due = due_from s t (k + 1) }) marks
 
 -- the slot whose snapshots are due is in range
@@ -428,59 +429,59 @@ due_within s t on due =
     let gone = (subst (DueHolds s.settings.cpus s.slots) due on.references.due_at).1 in
     omega (arith, in_within s.slots t gone.0 (inr gone.1), on.shape.slots, on.shape.marks)
 
-pub due_is : (s : State) (t k : ℕ) → k < s.settings.cpus → is_snapshot_due (due_from s t k) t k ≡ true
+pub due_is : (s : State) (t k : ℕ) → k < s.settings.cpus → Events.is_snapshot_due (due_from s t k) t k ≡ true
 due_is s t k lt = rw (lt-ltb k s.settings.cpus lt, eq-eqb t t refl, eq-eqb k k refl) refl
 
 -- the next snapshot is the one that is due
-pub snap_allowed : (s u : State) (t k : ℕ) → k < s.settings.cpus → u ≡ snapping s t k → is_snapshot_due u.due t k ≡ true
-snap_allowed s u t k lt is = ap (λ (x : State). is_snapshot_due x.due t k) is ∙ due_is s t k lt
+pub snap_allowed : (s u : State) (t k : ℕ) → k < s.settings.cpus → u ≡ snapping s t k → Events.is_snapshot_due u.due t k ≡ true
+snap_allowed s u t k lt is = ap (λ (x : State). Events.is_snapshot_due x.due t k) is ∙ due_is s t k lt
 
 pub snap_turns : (s u v : State) (t k : ℕ) (r : Reply) → Holds s → s.due ≡ Snapshots t 0 → k < s.settings.cpus → u ≡ snapping s t k
-    → guard (is_snapshot_due u.due t k) (some_outcome (after_snapshot u t k) (Word (section_at u k))) ≡ Some (record { state = v; reply = r }) → v ≡ snapping s t (k + 1)
+    → Events.guard (Events.is_snapshot_due u.due t k) (Events.some_outcome (Events.after_snapshot u t k) (Word (section_at u k))) ≡ Some (record { state = v; reply = r }) → v ≡ snapping s t (k + 1)
 snap_turns s u v t k r on due lt is made =
-    made_is (is_snapshot_due u.due t k) (after_snapshot u t k) v (Word (section_at u k)) r (snap_allowed s u t k lt is) made
-    ∙ (ap (λ (x : State). after_snapshot x t k) is
+    made_is (Events.is_snapshot_due u.due t k) (Events.after_snapshot u t k) v (Word (section_at u k)) r (snap_allowed s u t k lt is) made
+    ∙ (ap (λ (x : State). Events.after_snapshot x t k) is
     ∙ snap_more s t k (due_within s t on due) (omega (arith, on.shape.sections)) (omega (arith, (ranges s.settings on.fit).cpus, lt)))
 
 -- What an unlinking leaves alone: the link of the one before is a word, and so is the head.
-blank_by : (s : State) (t : ℕ) (e : Entry) (before : Option ℕ) → t < length s.marks → get_or (with_retired (with_link_past s t before) t e).marks t [] ≡ replicate MOST_CPUS no_mark
+blank_by : (s : State) (t : ℕ) (e : Entry) (before : Option ℕ) → t < length s.marks → get_or (Events.with_retired (Events.with_link_past s t before) t e).marks t [] ≡ replicate MOST_CPUS no_mark
 blank_by s t e None lt = get_or-set_same s.marks t (replicate MOST_CPUS no_mark) [] lt
 blank_by s t e (Some p) lt = get_or-set_same s.marks t (replicate MOST_CPUS no_mark) [] lt
 
-pub unlinked_blank : (s u : State) (e : Entry) → Holds s → slot_at s.slots e.slot ≡ Live e → u ≡ after_unpublish (all_seated s) e.slot e → get_or u.marks e.slot [] ≡ replicate MOST_CPUS no_mark
+pub unlinked_blank : (s u : State) (e : Entry) → Holds s → slot_at s.slots e.slot ≡ Live e → u ≡ Events.after_unpublish (all_seated s) e.slot e → get_or u.marks e.slot [] ≡ replicate MOST_CPUS no_mark
 unlinked_blank s u e on live is =
     ap (λ (x : State). get_or x.marks e.slot []) is
     ∙ blank_by (all_seated s) e.slot e (slot_before s.slots s.next e.slot) (omega (arith, in_within s.slots e.slot e (inl live), on.shape.slots, on.shape.marks))
 
-idle_by : (s : State) (t : ℕ) (e : Entry) (before : Option ℕ) (d : ℕ) → is_idle (with_retired (with_link_past s t before) t e) d ≡ is_idle s d
+idle_by : (s : State) (t : ℕ) (e : Entry) (before : Option ℕ) (d : ℕ) → Events.is_idle (Events.with_retired (Events.with_link_past s t before) t e) d ≡ Events.is_idle s d
 idle_by s t e None d = refl
 idle_by s t e (Some p) d = refl
 
-may_by : (s : State) (t : ℕ) (e : Entry) (before : Option ℕ) (d : ℕ) → may_act (with_retired (with_link_past s t before) t e) d ≡ may_act s d
+may_by : (s : State) (t : ℕ) (e : Entry) (before : Option ℕ) (d : ℕ) → may_act (Events.with_retired (Events.with_link_past s t before) t e) d ≡ may_act s d
 may_by s t e None d = refl
 may_by s t e (Some p) d = refl
 
-pub settings_by : (s : State) (t : ℕ) (e : Entry) (before : Option ℕ) → (with_retired (with_link_past s t before) t e).settings ≡ s.settings
+pub settings_by : (s : State) (t : ℕ) (e : Entry) (before : Option ℕ) → (Events.with_retired (Events.with_link_past s t before) t e).settings ≡ s.settings
 settings_by s t e None = refl
 settings_by s t e (Some p) = refl
 
 -- the snapshots were taken, and the keeper has told of it
-pub snapped_told : (s u v w : State) (e : Entry) (r : Reply) → u ≡ after_unpublish (all_seated s) e.slot e → v ≡ with_all_snapshots u e.slot
-    → guard (at_rest v.due) (some_outcome v Done) ≡ Some (record { state = w; reply = r })
-    → w ≡ with_all_snapshots (after_unpublish (all_seated s) e.slot e) e.slot
+pub snapped_told : (s u v w : State) (e : Entry) (r : Reply) → u ≡ Events.after_unpublish (all_seated s) e.slot e → v ≡ with_all_snapshots u e.slot
+    → Events.guard (at_rest v.due) (Events.some_outcome v Done) ≡ Some (record { state = w; reply = r })
+    → w ≡ with_all_snapshots (Events.after_unpublish (all_seated s) e.slot e) e.slot
 snapped_told s u v w e r unlinked taken_all made =
-    let all : v ≡ with_all_snapshots (after_unpublish (all_seated s) e.slot e) e.slot = taken_all ∙ ap (λ (x : State). with_all_snapshots x e.slot) unlinked in
+    let all : v ≡ with_all_snapshots (Events.after_unpublish (all_seated s) e.slot e) e.slot = taken_all ∙ ap (λ (x : State). with_all_snapshots x e.slot) unlinked in
     made_is (at_rest v.due) v w Done r (ap (λ (x : State). at_rest x.due) all) made ∙ all
 
 -- whoever is idle stays so
-pub snapped_idle : (s w : State) (e : Entry) (c : ℕ) → w ≡ with_all_snapshots (after_unpublish (all_seated s) e.slot e) e.slot → is_idle (all_seated s) c ≡ true → is_idle w c ≡ true
-snapped_idle s w e c is idle = ap (λ (x : State). is_idle x c) is ∙ (idle_by (all_seated s) e.slot e (slot_before s.slots s.next e.slot) c ∙ idle)
+pub snapped_idle : (s w : State) (e : Entry) (c : ℕ) → w ≡ with_all_snapshots (Events.after_unpublish (all_seated s) e.slot e) e.slot → Events.is_idle (all_seated s) c ≡ true → Events.is_idle w c ≡ true
+snapped_idle s w e c is idle = ap (λ (x : State). Events.is_idle x c) is ∙ (idle_by (all_seated s) e.slot e (slot_before s.slots s.next e.slot) c ∙ idle)
 
 -- the CPU has heard of it
-pub detached_is : (s w x : State) (e : Entry) (c : ℕ) (r : Reply) → w ≡ with_all_snapshots (after_unpublish (all_seated s) e.slot e) e.slot → is_idle (all_seated s) c ≡ true
-    → guard (is_idle w c) (some_outcome (after_seeing w c) Done) ≡ Some (record { state = x; reply = r }) → x ≡ with_detached s c e
+pub detached_is : (s w x : State) (e : Entry) (c : ℕ) (r : Reply) → w ≡ with_all_snapshots (Events.after_unpublish (all_seated s) e.slot e) e.slot → Events.is_idle (all_seated s) c ≡ true
+    → Events.guard (Events.is_idle w c) (Events.some_outcome (Events.after_seeing w c) Done) ≡ Some (record { state = x; reply = r }) → x ≡ with_detached s c e
 detached_is s w x e c r is idle made =
-    made_is (is_idle w c) (after_seeing w c) x Done r (snapped_idle s w e c is idle) made ∙ ap (λ (y : State). after_seeing y c) is
+    made_is (Events.is_idle w c) (Events.after_seeing w c) x Done r (snapped_idle s w e c is idle) made ∙ ap (λ (y : State). Events.after_seeing y c) is
 
 pub detached_settings : (s x : State) (e : Entry) (c : ℕ) → x ≡ with_detached s c e → x.settings ≡ s.settings
 detached_settings s x e c is = ap (λ (y : State). y.settings) is ∙ settings_by (all_seated s) e.slot e (slot_before s.slots s.next e.slot)

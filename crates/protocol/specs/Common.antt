@@ -19,15 +19,15 @@ pub use Rattle.protocol.specs.declared.state.RecordWords.{RecordWords}
 pub use Rattle.protocol.specs.declared.state.Search.{Search}
 pub use Rattle.protocol.specs.declared.state.SearchPlace.{SearchPlace}
 pub use Rattle.protocol.specs.declared.state.SearchPlace.TheVariants.{AtHead, AtHigh, AtKind, AtLow, AtNext, AtNumber, AtValue}
-pub use Rattle.protocol.specs.Events.{Outcome, after_add, after_collect, after_collected, after_count, after_count_add, after_count_down, after_count_store, after_enter, after_exit, after_hand}
-pub use Rattle.protocol.specs.Events.{after_join_keeper, after_keep, after_kept_sub, after_link_store, after_look, after_look_passive, after_publish, after_row_store, after_seat, after_seeing}
+pub use Rattle.protocol.specs.Events.{Outcome, after_add, after_collect, after_collected, after_count_add, after_count_store, after_enter, after_exit}
+pub use Rattle.protocol.specs.Events.{after_join_keeper, after_kept_sub, after_look, after_look_passive, after_publish, after_row_store, after_seeing}
 pub use Rattle.protocol.specs.Events.{after_seek, after_snapshot, after_split, after_sub, after_total, after_unpublish, after_vacate, are_unused, due_after, entry_if, entry_of, exchange, grows, guard}
 pub use Rattle.protocol.specs.Events.{has_room, id_if, is_bias, is_drainable, is_drained, is_driver_slot, is_free, is_idle, is_iface_slot, is_inside, is_number, is_outside, is_prepared}
-pub use Rattle.protocol.specs.Events.{is_snapshot_due, keeps_rightly, kind_of, least_id, link_at, link_loaded, load_link, load_local, load_passive, load_record, load_searched, may_add, may_collect}
+pub use Rattle.protocol.specs.Events.{is_snapshot_due, keeps_rightly, kind_of, least_id, link_loaded, load_link, load_local, load_passive, load_record, load_searched, may_add, may_collect}
 pub use Rattle.protocol.specs.Events.{may_count, may_enter, may_examine, may_exit, may_glance, may_join, may_join_keeper, may_keep, may_look_passive, may_publish, may_seat, may_seek, may_sub}
 pub use Rattle.protocol.specs.Events.{may_vacate, may_write, number_standing, outcome_of, room_of, search_over, snapshot_mark, some_outcome, split_back, split_ref, names_lawfully, narrow_step}
 pub use Rattle.protocol.specs.Events.{state_after, step, total_add, total_sub, unpublish, with_link_past, with_local, with_retired, with_search_at, with_some, with_word, word, after_confirm}
-pub use Rattle.protocol.specs.Events.{after_live_store, after_take_back, after_taking, after_tried, after_try, compared_slot, confirm, is_honest, has_live, may_confirm, may_hide, may_recall, may_try}
+pub use Rattle.protocol.specs.Events.{compared_slot, confirm, is_honest, has_live, may_confirm, may_hide, may_recall, may_try}
 pub use Rattle.protocol.specs.Events.{after_republish, may_republish, republish, with_link_to, with_replaced}
 pub use Rattle.protocol.specs.Events.{after_refind, may_recall_head, may_refind, refind, take_back, words_of}
 pub use Rattle.protocol.specs.History.{EndsAt, IsAttached, brought_by, ended_by, rank_by, IsLawful, IsLegal, IsLiveAt, IsLookup, IsNewestAt, MayHold, after_change}
@@ -45,6 +45,5 @@ pub use Rattle.protocol.specs.State.{count_at, depth_at, found_at, hand_at, is_e
 pub use Rattle.protocol.specs.State.{total_at, trying_at, trying_of, with_biases, with_cell}
 pub use Rattle.protocol.specs.Model.{Acquires, Answers, Attaches, Copies, Counts, Detaches, Enters, Exits, Gives_up, Goes_on, Replaces, IsDriverHere, IsModelRun, IsModelStep, IsUnheld, Lookup, Model, Releases}
 pub use Rattle.protocol.specs.Model.{Seeks, Sees, Stays, Takes, TakesNone, Uncounts, Vacates, empty_model, put, with_locals, with_passive, Confirms, EveryRunIsModelRun, HasConfirm, locals_of}
-pub use Rattle.protocol.specs.Model.{lookup_of, number_in, passive_in, picture, subtractions_due, Run, empty_run, narrow_run_of_events, run_of_events, run_with_event, with_lawful_names}
-pub use Rattle.protocol.specs.Rows.{KeptDriver, ReplacedUnder, two_slots, keep_events, keep_case, wm, wm_entry, attaches_two, only_two, replace_begins, replace_case, replaces_one, loads_five, replace_replies, newer, replies, try_events, CollectRace, ReplaceRace, TryRace, FrozenLink, Gives, all_three, attaches, detaches, done_replies, first, has_found, loads, search_begins, search_case, search_goes_on}
-pub use Rattle.protocol.specs.Rows.{try_replies, two_cpus, unlinked_case, wm0, wm1, wm2}
+pub use Rattle.protocol.specs.Model.{lookup_of, number_in, passive_in, picture, subtractions_due, Run, empty_run, narrow_run_of_events, run_of_events, run_with_event}
+pub use Rattle.protocol.specs.Rows.{KeptDriver, ReplacedUnder, CollectRace, ReplaceRace, TryRace, FrozenLink, Gives}

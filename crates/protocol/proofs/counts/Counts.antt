@@ -3,7 +3,8 @@ use Rattle.std.proofs.Common.{◌≡◌, ℕ, ◌+◌, ◌-◌, ◌<◌, ◌≤�
 use Rattle.std.proofs.lemmas.Bool.{cond_both, cases_eq, cases_lt, cases_Bool, eq-eqb, ne_eqb}
 use Rattle.std.proofs.lemmas.List.{get_or-replicate, get_or_past, length-replicate}
 use Rattle.protocol.specs.Types.{Entry, Settings, MOST_CPUS, Slot, Vacant, Live, Retired, Mark}
-use Rattle.protocol.specs.Common.{Hand, Empty, Taking, Giving, Back, LocalPlace, Free, Standing, Lifted, Due, Rest, Snapshots, Adding, Subtracting, State, with_cell, mark_at, count_at, total_at, kept_at, local_at, least_id, with_local, IsIn, AreRows, HasShape, Balances, IsCounting, CountsHold, one_if, standing_of, in_hand, kept_of, subtraction_due_at, addition_due_at, is_adding_at, held_at, greatest_limit}
+use Rattle.protocol.specs.Common.{Hand, Empty, Taking, Giving, Back, LocalPlace, Free, Standing, Lifted, Due, Rest, Snapshots, Adding, Subtracting, State, with_cell, mark_at, count_at, total_at, kept_at, local_at, least_id, with_local, IsIn, AreRows, HasShape, Balances, IsCounting, CountsHold}
+use Rattle.protocol.specs.Invariant
 use Rattle.registry_values.specs.Common.{are_fit, bias, no_mark, mark_after_collect, slot_at}
 use Rattle.registry_values.proofs.Fit.{ranges}
 use Rattle.protocol.proofs.counts.Sums.{one_at, none_at, standing_within, lifted_within, local_changed, hand_changed, kept_changed, local_added, AreWords, word_floor, counted_up, counted_down, added, subtracted, published, collected as word_collected}
@@ -15,7 +16,7 @@ use Rattle.protocol.proofs.keeps.MarkKeeps.{cell_all}
 -- the lengths and limits that the lemmas need
 pub record CountsFit (z : Settings) (slots : List Slot) (marks : List (List Mark)) (counts nets : List (List ℕ)) (totals : List ℕ) (hands : List Hand) (keeps : List (Option ℕ)) : Type 0 where
   pub cpu_limit : z.cpus ≤ MOST_CPUS
-  pub limit : z.count_limit ≤ greatest_limit
+  pub limit : z.count_limit ≤ Invariant.greatest_limit
   pub slot_length : length slots ≡ z.slots
   pub mark_length : length marks ≡ z.slots
   pub mark_rows : AreRows marks
@@ -53,8 +54,8 @@ moved {row} {row2} {total} {total2} {held} {held2} {adding} {adding2} {is_adding
 
 -- a reference to n is one to the entry in t
 at_slot : (slots : List Slot) (t n : ℕ) (e : Entry) → IsIn e (slot_at slots t) → e.number ≡ n → ((u : ℕ) (f : Entry) → IsIn f (slot_at slots u) → f.number ≡ n → u ≡ t) → (u : ℕ) (f : Entry)
-    → IsIn f (slot_at slots u) → one_if (n == f.number) ≡ one_if (t == u)
-at_slot slots t n e is number one u f in_ = by_place (λ (k : ℕ). IsIn f (slot_at slots k) → one_if (n == f.number) ≡ one_if (t == k)) t u
+    → IsIn f (slot_at slots u) → Invariant.one_if (n == f.number) ≡ Invariant.one_if (t == u)
+at_slot slots t n e is number one u f in_ = by_place (λ (k : ℕ). IsIn f (slot_at slots k) → Invariant.one_if (n == f.number) ≡ Invariant.one_if (t == k)) t u
     (λ here. one_at n f.number (sym number ∙ sym (ap (λ (g : Entry). g.number) (one_in e f (slot_at slots t) is here))) ∙ sym (one_at t t refl))
     (λ off there. none_at n f.number (λ same. off (one u f there (sym same))) ∙ sym (none_at t u (λ same. off (sym same))))
     in_
@@ -70,21 +71,21 @@ module _ {z : Settings} {slots : List Slot} {marks : List (List Mark)} {counts n
       (λ off. absurd (omega (arith, same, on.used c t e lt is, on.emptied c t e off.0 off.1)))
 
   pub rebalanced : (totals2 : List ℕ) (hands2 : List Hand) (keeps2 : List (Option ℕ)) (due2 : Due) (locals2 : List LocalPlace)
-      → ((t : ℕ) (e : Entry) → IsIn e (slot_at slots t) → Balances (get_or counts t []) (total_at totals2 t) (held_at locals2 hands2 keeps2 due2 e.number t) (addition_due_at t due2) (is_adding_at t due2))
+      → ((t : ℕ) (e : Entry) → IsIn e (slot_at slots t) → Balances (get_or counts t []) (total_at totals2 t) (Invariant.held_at locals2 hands2 keeps2 due2 e.number t) (Invariant.addition_due_at t due2) (Invariant.is_adding_at t due2))
       → ((t : ℕ) → slot_at slots t ≡ Vacant → total_at totals2 t ≡ total_at totals t) → ((t d : ℕ) → due2 ≡ Snapshots t d → (k : ℕ) × (due ≡ Snapshots t k))
       → CountsHold z slots marks counts nets totals2 hands2 keeps2 due2 locals2
   rebalanced totals2 hands2 keeps2 due2 locals2 balances totals_stay due_was = grind arith
 
   -- the references held stay as many
   pub held_stays : (hands2 : List Hand) (keeps2 : List (Option ℕ)) (locals2 : List LocalPlace)
-      → ((n : ℕ) → sum_by (standing_of n) locals2 + sum_by (in_hand n) hands2 + sum_by (kept_of n) keeps2 ≡ sum_by (standing_of n) locals + sum_by (in_hand n) hands + sum_by (kept_of n) keeps)
+      → ((n : ℕ) → sum_by (Invariant.standing_of n) locals2 + sum_by (Invariant.in_hand n) hands2 + sum_by (Invariant.kept_of n) keeps2 ≡ sum_by (Invariant.standing_of n) locals + sum_by (Invariant.in_hand n) hands + sum_by (Invariant.kept_of n) keeps)
       → CountsHold z slots marks counts nets totals hands2 keeps2 due locals2
   held_stays hands2 keeps2 locals2 same = rebalanced totals hands2 keeps2 due locals2
       (λ t e is. moved (on.balance t e is) refl refl (omega (arith, same e.number)) refl refl)
       (λ t is. refl) (λ t d is. (d, is))
 
   -- a hand that holds nothing becomes another that holds nothing
-  pub hand_unheld : (c : ℕ) (h k : Hand) → c < length hands → get_or hands c Empty ≡ h → ((m : ℕ) → in_hand m h ≡ 0) → ((m : ℕ) → in_hand m k ≡ 0)
+  pub hand_unheld : (c : ℕ) (h k : Hand) → c < length hands → get_or hands c Empty ≡ h → ((m : ℕ) → Invariant.in_hand m h ≡ 0) → ((m : ℕ) → Invariant.in_hand m k ≡ 0)
       → CountsHold z slots marks counts nets totals (set hands c k) keeps due locals
   hand_unheld c h k lt hand before later = held_stays (set hands c k) keeps locals
       (λ m. omega (arith, hand_changed m hands c h k lt hand, before m, later m))
@@ -117,8 +118,8 @@ module _ {z : Settings} {slots : List Slot} {marks : List (List Mark)} {counts n
       → local_at locals id ≡ Standing n → CountsHold z slots marks counts nets totals hands keeps (Subtracting t) (set locals id Free)
   join_keeper t n id e rest is number one at = rebalanced totals hands keeps (Subtracting t) (set locals id Free)
       (λ u f in_. moved (on.balance u f in_) refl refl
-      (omega (arith, at_slot slots t n e is number one u f in_, local_changed f.number locals id (Standing n) Free (standing_within locals id n at) at, ap (subtraction_due_at u) rest))
-      (sym (ap (addition_due_at u) rest)) (sym (ap (is_adding_at u) rest)))
+      (omega (arith, at_slot slots t n e is number one u f in_, local_changed f.number locals id (Standing n) Free (standing_within locals id n at) at, ap (Invariant.subtraction_due_at u) rest))
+      (sym (ap (Invariant.addition_due_at u) rest)) (sym (ap (Invariant.is_adding_at u) rest)))
       (λ u is. refl) (λ u d snap. absurd (let q : Subtracting t ≡ Snapshots u d = snap in cc))
 
   -- marks change, but not what was collected
@@ -195,13 +196,13 @@ module _ {z : Settings} {slots : List Slot} {marks : List (List Mark)} {counts n
   total_sub t e was is =
       let lt : t < length totals = omega (arith, in_within slots t e is, fit.slot_length, fit.total_length) in
       rebalanced on (set totals t (total_at totals t - 1)) hands keeps Rest locals
-      (λ u f in_. by_place (λ (k : ℕ). IsIn f (slot_at slots k) → Balances (get_or counts k []) (total_at (set totals t (total_at totals t - 1)) k) (held_at locals hands keeps Rest f.number k) 0 0) t u
+      (λ u f in_. by_place (λ (k : ℕ). IsIn f (slot_at slots k) → Balances (get_or counts k []) (total_at (set totals t (total_at totals t - 1)) k) (Invariant.held_at locals hands keeps Rest f.number k) 0 0) t u
       (λ here. moved
-      (subtracted (get_or counts t []) (total_at totals t) (held_at locals hands keeps Rest f.number t) (are_words t f here)
-      (moved (on.balance t f here) refl refl (omega (arith, ap (subtraction_due_at t) was, one_at t t refl)) (sym (ap (addition_due_at t) was)) (sym (ap (is_adding_at t) was))))
+      (subtracted (get_or counts t []) (total_at totals t) (Invariant.held_at locals hands keeps Rest f.number t) (are_words t f here)
+      (moved (on.balance t f here) refl refl (omega (arith, ap (Invariant.subtraction_due_at t) was, one_at t t refl)) (sym (ap (Invariant.addition_due_at t) was)) (sym (ap (Invariant.is_adding_at t) was))))
       refl (total_here totals t (total_at totals t - 1) lt) refl refl refl)
-      (λ off there. moved (on.balance u f there) refl (total_other totals t (total_at totals t - 1) u off) (omega (arith, ap (subtraction_due_at u) was, none_at t u (λ same. off (sym same))))
-      (sym (ap (addition_due_at u) was)) (sym (ap (is_adding_at u) was)))
+      (λ off there. moved (on.balance u f there) refl (total_other totals t (total_at totals t - 1) u off) (omega (arith, ap (Invariant.subtraction_due_at u) was, none_at t u (λ same. off (sym same))))
+      (sym (ap (Invariant.addition_due_at u) was)) (sym (ap (Invariant.is_adding_at u) was)))
       in_)
       (λ u vacant. total_other totals t (total_at totals t - 1) u (λ same. not_vacant e (slot_at slots t) (ap (slot_at slots) (sym same) ∙ vacant) is))
       (λ u d snap. absurd (let q : Rest ≡ Snapshots u d = snap in cc))
@@ -212,22 +213,22 @@ module _ {z : Settings} {slots : List Slot} {marks : List (List Mark)} {counts n
       let lt : t < length totals = omega (arith, in_within slots t e is, fit.slot_length, fit.total_length) in
       let v : ℕ = total_at totals t + old - bias in
       rebalanced on (set totals t v) hands keeps Rest locals
-      (λ u f in_. by_place (λ (k : ℕ). IsIn f (slot_at slots k) → Balances (get_or counts k []) (total_at (set totals t v) k) (held_at locals hands keeps Rest f.number k) 0 0) t u
+      (λ u f in_. by_place (λ (k : ℕ). IsIn f (slot_at slots k) → Balances (get_or counts k []) (total_at (set totals t v) k) (Invariant.held_at locals hands keeps Rest f.number k) 0 0) t u
       (λ here. moved
-      (added (get_or counts t []) (total_at totals t) (held_at locals hands keeps Rest f.number t) old (are_words t f here)
-      (moved (on.balance t f here) refl refl (omega (arith, ap (subtraction_due_at t) was))
-      (sym (ap (addition_due_at t) was ∙ ap (λ (b : Bool). cond b old 0) (eq-eqb t t refl))) (sym (ap (is_adding_at t) was ∙ one_at t t refl))))
+      (added (get_or counts t []) (total_at totals t) (Invariant.held_at locals hands keeps Rest f.number t) old (are_words t f here)
+      (moved (on.balance t f here) refl refl (omega (arith, ap (Invariant.subtraction_due_at t) was))
+      (sym (ap (Invariant.addition_due_at t) was ∙ ap (λ (b : Bool). cond b old 0) (eq-eqb t t refl))) (sym (ap (Invariant.is_adding_at t) was ∙ one_at t t refl))))
       refl (total_here totals t v lt) refl refl refl)
-      (λ off there. moved (on.balance u f there) refl (total_other totals t v u off) (omega (arith, ap (subtraction_due_at u) was))
-      (sym (ap (addition_due_at u) was ∙ ap (λ (b : Bool). cond b old 0) (ne_eqb t u (λ same. off (sym same))))) (sym (ap (is_adding_at u) was ∙ none_at t u (λ same. off (sym same)))))
+      (λ off there. moved (on.balance u f there) refl (total_other totals t v u off) (omega (arith, ap (Invariant.subtraction_due_at u) was))
+      (sym (ap (Invariant.addition_due_at u) was ∙ ap (λ (b : Bool). cond b old 0) (ne_eqb t u (λ same. off (sym same))))) (sym (ap (Invariant.is_adding_at u) was ∙ none_at t u (λ same. off (sym same)))))
       in_)
       (λ u vacant. total_other totals t v u (λ same. not_vacant e (slot_at slots t) (ap (slot_at slots) (sym same) ∙ vacant) is))
       (λ u d snap. absurd (let q : Rest ≡ Snapshots u d = snap in cc))
 
   -- a word that counts and its net count change alike
   pub recounted : (c t w v : ℕ) (e : Entry) (hands2 : List Hand) (locals2 : List LocalPlace) → c < z.cpus → IsIn e (slot_at slots t) → IsCounting slots marks c t → w ≡ v → 0 < w
-      → v ≤ bias + z.count_limit → Balances (set (get_or counts t []) c w) (total_at totals t) (held_at locals2 hands2 keeps due e.number t) (addition_due_at t due) (is_adding_at t due)
-      → ((u : ℕ) (f : Entry) → (u ≡ t → ⊥) → IsIn f (slot_at slots u) → held_at locals2 hands2 keeps due f.number u ≡ held_at locals hands keeps due f.number u)
+      → v ≤ bias + z.count_limit → Balances (set (get_or counts t []) c w) (total_at totals t) (Invariant.held_at locals2 hands2 keeps due e.number t) (Invariant.addition_due_at t due) (Invariant.is_adding_at t due)
+      → ((u : ℕ) (f : Entry) → (u ≡ t → ⊥) → IsIn f (slot_at slots u) → Invariant.held_at locals2 hands2 keeps due f.number u ≡ Invariant.held_at locals hands keeps due f.number u)
       → CountsHold z slots marks (with_cell counts t c w) (with_cell nets t c v) totals hands2 keeps due locals2
   recounted c t w v e hands2 locals2 lt is counting same some most balances others =
       let cs = in_rows slots counts fit.slot_length fit.count_length fit.count_rows t e is in
@@ -245,8 +246,8 @@ module _ {z : Settings} {slots : List Slot} {marks : List (List Mark)} {counts n
         beyond = λ j u ge. counts_old u j (λ _ here. omega (arith, here, lt, ge)) ∙ on.beyond j u ge;
         limited = λ j u f in_. grind (arith, cases_eq u t, cases_eq j c, on.limited j u f in_, nets_old u j, net, most);
         balance = λ u f in_. by_place (λ x. IsIn f (slot_at slots x)
-            → Balances (get_or (with_cell counts t c w) x []) (total_at totals x) (held_at locals2 hands2 keeps due f.number x) (addition_due_at x due) (is_adding_at x due)) t u
-            (λ here. moved balances (row_here counts t c w cs.0) refl (ap (λ (g : Entry). held_at locals2 hands2 keeps due g.number t) (one_in e f (slot_at slots t) is here)) refl refl)
+            → Balances (get_or (with_cell counts t c w) x []) (total_at totals x) (Invariant.held_at locals2 hands2 keeps due f.number x) (Invariant.addition_due_at x due) (Invariant.is_adding_at x due)) t u
+            (λ here. moved balances (row_here counts t c w cs.0) refl (ap (λ (g : Entry). Invariant.held_at locals2 hands2 keeps due g.number t) (one_in e f (slot_at slots t) is here)) refl refl)
             (λ off there. moved (on.balance u f there) (row_other counts t c w u off) refl (others u f off there) refl refl)
             in_;
         vacant = on.vacant;
@@ -277,7 +278,7 @@ module _ {z : Settings} {slots : List Slot} {marks : List (List Mark)} {counts n
       let ll = lifted_within locals id c at in
       let floor = word_floor (get_or counts t []) _ _ _ _ c (are_words t e is) (omega (arith, lt, fit.cpu_limit)) was.1 (on.balance t e is) in
       let far : 1 < count_at counts c t = omega (arith, floor) in
-      let changed : held_at locals hands keeps due e.number t ≡ held_at (set locals id Free) (set hands c Empty) keeps due e.number t + 1
+      let changed : Invariant.held_at locals hands keeps due e.number t ≡ Invariant.held_at (set locals id Free) (set hands c Empty) keeps due e.number t + 1
       = omega (arith, hand_changed e.number hands c (Giving n id) Empty hl hand, local_changed e.number locals id (Lifted c) Free ll at, one_at n e.number (sym number)) in
       recounted c t (count_at counts c t - 1) (count_at nets c t - 1) e (set hands c Empty) (set locals id Free) lt is counting (omega (arith, was.0)) (omega (arith, far))
       (omega (arith, on.limited c t e is))
@@ -302,7 +303,7 @@ module _ {z : Settings} {slots : List Slot} {marks : List (List Mark)} {counts n
       let mark : mark_at (with_cell marks t c m) t c ≡ m = cell_here no_mark marks t c m tm ml in
       let marks_old : (u j : ℕ) → (u ≡ t → j ≡ c → ⊥) → mark_at (with_cell marks t c m) u j ≡ mark_at marks u j = λ u j off. cell_other no_mark marks t c m u j off in
       let counts_old : (u j : ℕ) → (u ≡ t → j ≡ c → ⊥) → count_at (with_cell counts t c 0) j u ≡ count_at counts j u = λ u j off. cell_other 0 counts t c 0 u j off in
-      let a_word : (x : ℕ) → addition_due_at x (Adding t w) ≡ cond (t == x) w 0 = λ x. refl in
+      let a_word : (x : ℕ) → Invariant.addition_due_at x (Adding t w) ≡ cond (t == x) w 0 = λ x. refl in
       record {
         counted = λ j u below there. grind (arith, cases_eq u t, cases_eq j c, on.counted j u below, marks_old u j, counts_old u j, mark, not_both slots (with_cell marks t c m) c t e);
         used = on.used;
@@ -310,19 +311,19 @@ module _ {z : Settings} {slots : List Slot} {marks : List (List Mark)} {counts n
         beyond = λ j u ge. counts_old u j (λ _ here. omega (arith, here, lt, ge)) ∙ on.beyond j u ge;
         limited = on.limited;
         balance = λ u f in_. by_place (λ x. IsIn f (slot_at slots x)
-            → Balances (get_or (with_cell counts t c 0) x []) (total_at totals x) (held_at locals hands keeps (Adding t w) f.number x) (addition_due_at x (Adding t w)) (is_adding_at x (Adding t w))) t u
+            → Balances (get_or (with_cell counts t c 0) x []) (total_at totals x) (Invariant.held_at locals hands keeps (Adding t w) f.number x) (Invariant.addition_due_at x (Adding t w)) (Invariant.is_adding_at x (Adding t w))) t u
             (λ here. moved
-            (word_collected (get_or counts t []) (total_at totals t) (held_at locals hands keeps (Adding t w) f.number t) c w cl refl was.1 (words.1 c)
-            (moved (on.balance t f here) refl refl (omega (arith, ap (subtraction_due_at t) rest)) (sym (ap (addition_due_at t) rest)) (sym (ap (is_adding_at t) rest))))
+            (word_collected (get_or counts t []) (total_at totals t) (Invariant.held_at locals hands keeps (Adding t w) f.number t) c w cl refl was.1 (words.1 c)
+            (moved (on.balance t f here) refl refl (omega (arith, ap (Invariant.subtraction_due_at t) rest)) (sym (ap (Invariant.addition_due_at t) rest)) (sym (ap (Invariant.is_adding_at t) rest))))
             (row_here counts t c 0 cs.0) refl refl (ap (λ (b : Bool). cond b w 0) (eq-eqb t t refl)) (one_at t t refl))
-            (λ off there. moved (on.balance u f there) (row_other counts t c 0 u off) refl (omega (arith, ap (subtraction_due_at u) rest))
-            (ap (λ (b : Bool). cond b w 0) (ne_eqb t u (λ here. off (sym here))) ∙ sym (ap (addition_due_at u) rest)) (none_at t u (λ here. off (sym here)) ∙ sym (ap (is_adding_at u) rest)))
+            (λ off there. moved (on.balance u f there) (row_other counts t c 0 u off) refl (omega (arith, ap (Invariant.subtraction_due_at u) rest))
+            (ap (λ (b : Bool). cond b w 0) (ne_eqb t u (λ here. off (sym here))) ∙ sym (ap (Invariant.addition_due_at u) rest)) (none_at t u (λ here. off (sym here)) ∙ sym (ap (Invariant.is_adding_at u) rest)))
             in_;
         vacant = on.vacant;
         fresh = λ j u d snap. absurd (let q : Adding t w ≡ Snapshots u d = snap in cc);
       }
 
-  pub publish : (t : ℕ) (e : Entry) → t < length slots → slot_at slots t ≡ Vacant → due ≡ Rest → ((c : ℕ) → c < z.cpus → count_at counts c t ≡ bias) → held_at locals hands keeps due e.number t ≡ 0
+  pub publish : (t : ℕ) (e : Entry) → t < length slots → slot_at slots t ≡ Vacant → due ≡ Rest → ((c : ℕ) → c < z.cpus → count_at counts c t ≡ bias) → Invariant.held_at locals hands keeps due e.number t ≡ 0
       → CountsHold z (set slots t (Live e)) marks counts (set nets t (replicate MOST_CPUS bias)) totals hands keeps due locals
   publish t e lt vacant rest words none =
       let tn : t < length nets = omega (arith, lt, fit.slot_length, fit.net_length) in
@@ -340,12 +341,12 @@ module _ {z : Settings} {slots : List Slot} {marks : List (List Mark)} {counts n
         beyond = on.beyond;
         limited = λ j u f in_. grind (arith, cases_eq u t, on.limited j u f, slot_old u, net_old u j, net_new j, at_most j);
         balance = λ u f in_. by_place (λ x. IsIn f (slot_at (set slots t (Live e)) x)
-            → Balances (get_or counts x []) (total_at totals x) (held_at locals hands keeps due f.number x) (addition_due_at x due) (is_adding_at x due)) t u
+            → Balances (get_or counts x []) (total_at totals x) (Invariant.held_at locals hands keeps due f.number x) (Invariant.addition_due_at x due) (Invariant.is_adding_at x due)) t u
             (λ there. moved (published (get_or counts t []) (fit.count_rows t tc) (λ j. either (cases_lt j z.cpus)
             (λ below. inr (words j below))
             (λ ge. inl (on.beyond j t ge))))
-            refl (on.vacant t lt vacant) (ap (λ (g : Entry). held_at locals hands keeps due g.number t) (one_in e f (slot_at (set slots t (Live e)) t) is there) ∙ none) (ap (addition_due_at t) rest)
-            (ap (is_adding_at t) rest))
+            refl (on.vacant t lt vacant) (ap (λ (g : Entry). Invariant.held_at locals hands keeps due g.number t) (one_in e f (slot_at (set slots t (Live e)) t) is there) ∙ none) (ap (Invariant.addition_due_at t) rest)
+            (ap (Invariant.is_adding_at t) rest))
             (λ off there. on.balance u f (subst (IsIn f) (slot_old u off) there))
             in_;
         vacant = grind (arith, length-set);
@@ -374,7 +375,7 @@ module _ {z : Settings} {slots : List Slot} {marks : List (List Mark)} {counts n
         emptied = grind arith;
         beyond = on.beyond;
         limited = λ j u f in_. on.limited j u f (was_in u f in_);
-        balance = λ u f in_. moved (on.balance u f (was_in u f in_)) refl refl (omega (arith, ap (subtraction_due_at u) rest)) (sym (ap (addition_due_at u) rest)) (sym (ap (is_adding_at u) rest));
+        balance = λ u f in_. moved (on.balance u f (was_in u f in_)) refl refl (omega (arith, ap (Invariant.subtraction_due_at u) rest)) (sym (ap (Invariant.addition_due_at u) rest)) (sym (ap (Invariant.is_adding_at u) rest));
         vacant = grind (arith, length-set);
         fresh = grind arith;
       }
@@ -388,14 +389,14 @@ module _ {z : Settings} {slots : List Slot} {marks : List (List Mark)} {counts n
       let lk : t < length keeps = omega (arith, lt, fit.slot_length, fit.keep_length) in
       let v : ℕ = total_at totals u - 1 in
       vacate (rebalanced on (set totals u v) hands (set keeps t None) due locals
-      (λ x f in_. by_place (λ (k : ℕ). IsIn f (slot_at slots k) → Balances (get_or counts k []) (total_at (set totals u v) k) (held_at locals hands (set keeps t None) due f.number k)
-      (addition_due_at k due) (is_adding_at k due)) u x
+      (λ x f in_. by_place (λ (k : ℕ). IsIn f (slot_at slots k) → Balances (get_or counts k []) (total_at (set totals u v) k) (Invariant.held_at locals hands (set keeps t None) due f.number k)
+      (Invariant.addition_due_at k due) (Invariant.is_adding_at k due)) u x
       (λ here.
       let same : n ≡ f.number = sym number ∙ sym (ap (λ (g : Entry). g.number) (one_in e f (slot_at slots u) is here)) in
-      moved (subtracted (get_or counts u []) (total_at totals u) (held_at locals hands (set keeps t None) due f.number u) (are_words u f here)
-      (moved (on.balance u f here) refl refl (omega (arith, kept_changed f.number keeps t (Some n) None lk kept, one_at n f.number same)) (sym (ap (addition_due_at u) rest))
-      (sym (ap (is_adding_at u) rest))))
-      refl (total_here totals u v lu) refl (ap (addition_due_at u) rest) (ap (is_adding_at u) rest))
+      moved (subtracted (get_or counts u []) (total_at totals u) (Invariant.held_at locals hands (set keeps t None) due f.number u) (are_words u f here)
+      (moved (on.balance u f here) refl refl (omega (arith, kept_changed f.number keeps t (Some n) None lk kept, one_at n f.number same)) (sym (ap (Invariant.addition_due_at u) rest))
+      (sym (ap (Invariant.is_adding_at u) rest))))
+      refl (total_here totals u v lu) refl (ap (Invariant.addition_due_at u) rest) (ap (Invariant.is_adding_at u) rest))
       (λ off there. moved (on.balance x f there) refl (total_other totals u v x off)
       (omega (arith, kept_changed f.number keeps t (Some n) None lk kept, none_at n f.number (λ same. off (one x f there (sym same))))) refl refl)
       in_)

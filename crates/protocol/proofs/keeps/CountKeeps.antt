@@ -12,7 +12,8 @@ use Rattle.protocol.proofs.Occupied.{at_rest_tells, is_retired_tells, one_number
 use Rattle.protocol.proofs.keeps.Drivers.{drivers_keep}
 use Rattle.protocol.proofs.keeps.References.{back_holds, due_adding, due_subtracting, giving_holds, hand_seated, references_count_down, references_join, references_split, references_split_back, references_unheld, seats_hand, references_freed}
 use Rattle.protocol.proofs.keeps.SectionKeeps.{idle_parts, idle_tells, none_from, see_keeps, tries_hand}
-use Rattle.protocol.specs.Common.{after_collect, after_collected, after_count_add, after_count_down, after_count_store, after_hand, after_join_keeper, after_keep, after_split, after_total, after_confirm, after_taking, after_take_back, after_try, is_drainable, is_driver_slot, is_idle, is_number, may_collect, may_count, may_examine, may_join, may_join_keeper, may_keep, may_write, may_try, may_confirm, has_live, search_at, Holds, IsCounting, IsIn, IsSeenInHand, SeatsShow, TriesSeen, seen_at, SnapshotsStand, at_rest, State, count_at, found_at, hand_at, kept_at, local_at, mark_at, passive_at, total_at, trying_at, trying_of, with_cell, Due, Adding, Rest, Snapshots, Subtracting, Hand, Back, Empty, Giving, Taking, Trying, Lifted, Standing}
+use Rattle.protocol.specs.Common.{search_at, Holds, IsCounting, IsIn, IsSeenInHand, SeatsShow, TriesSeen, seen_at, SnapshotsStand, at_rest, State, count_at, found_at, hand_at, kept_at, local_at, mark_at, passive_at, total_at, trying_at, trying_of, with_cell, Due, Adding, Rest, Snapshots, Subtracting, Hand, Back, Empty, Giving, Taking, Trying, Lifted, Standing}
+use Rattle.protocol.specs.Events
 use Rattle.registry_values.specs.Common.{mark_after_collect, are_clear, have_passed, is_clear, is_some_collected, no_mark, is_retired, slot_of, slot_at, bias}
 use Rattle.protocol.specs.Types.{Entry, Slot, Live}
 use Rattle.protocol.proofs.Either.{either}
@@ -51,7 +52,7 @@ pub only_slot : (s : State) (t n : ℕ) (e : Entry) → Holds s → IsIn e (slot
 only_slot s t n e on is number u f also same = (one_number s.history s.slots t u e f on.slots is also (same ∙ sym number)).0
 
 -- A store to a count word of a vacant slot.
-pub count_store_keeps : (s : State) (t c v : ℕ) → Holds s → may_write s t ≡ true → c < s.settings.cpus → Holds (after_count_store s t c v)
+pub count_store_keeps : (s : State) (t c v : ℕ) → Holds s → Events.may_write s t ≡ true → c < s.settings.cpus → Holds (Events.after_count_store s t c v)
 count_store_keeps s t c v on may lt = grind (arith, may_write_tells, cell_sized, C.count_store)
 
 -- the word for an entry that the open section may hold counts
@@ -65,13 +66,13 @@ held_counting s c t e on found of =
       either (C.counting_cases s.slots s.marks c t e here)
           (λ counting. counting)
           (λ off.
-          absurd (found_not_passed s.history s.slots s.marks s.section s.begins s.found c t e on.slots on.grace on.last_found off.0 (ap (is_number e.number) found ∙ eq-eqb e.number e.number refl)
+          absurd (found_not_passed s.history s.slots s.marks s.section s.begins s.found c t e on.slots on.grace on.last_found off.0 (ap (Events.is_number e.number) found ∙ eq-eqb e.number e.number refl)
           (on.passive.clear c t e off.0 (on.passive.collected c t e off.0 off.1)).0)),
     )
 
-pub count_add_keeps : (s : State) (c t : ℕ) (e : Entry) → Holds s → found_at s c ≡ Some e → slot_of s.slots e.number ≡ Some t → may_count s c t ≡ true → Holds (after_count_add s c e.number t)
+pub count_add_keeps : (s : State) (c t : ℕ) (e : Entry) → Holds s → found_at s c ≡ Some e → slot_of s.slots e.number ≡ Some t → Events.may_count s c t ≡ true → Holds (Events.after_count_add s c e.number t)
 count_add_keeps s c t e on found of may =
-    let p = and_parts (is_idle s c) (nat_lt (count_at s.nets c t) (bias + s.settings.count_limit)) may in
+    let p = and_parts (Events.is_idle s c) (nat_lt (count_at s.nets c t) (bias + s.settings.count_limit)) may in
     let idle = idle_tells s c on p.0 in
     let fits : count_at s.nets c t < bias + s.settings.count_limit = ltb-true (count_at s.nets c t) (bias + s.settings.count_limit) p.1 in
     let counting = held_counting s c t e on found of in
@@ -84,7 +85,7 @@ count_add_keeps s c t e on found of may =
       references_unheld on.references c (Taking e.number) (omega (arith, idle.0, on.shape.hands)) (slot_occupied s.slots e.number t of),
     )
 
-pub split_keeps : (s : State) (c n : ℕ) → Holds s → hand_at s c ≡ Taking n → Holds (after_split s c n)
+pub split_keeps : (s : State) (c n : ℕ) → Holds s → hand_at s c ≡ Taking n → Holds (Events.after_split s c n)
 split_keeps s c n on hand =
     let full = hand_full s c Empty (Taking n) on hand (λ is. let q : Taking n ≡ Empty = is in cc) tt in
     assumption (
@@ -94,7 +95,7 @@ split_keeps s c n on hand =
       references_split on.references c n full.0 hand,
     )
 
-pub join_keeps : (s : State) (c n id : ℕ) → Holds s → local_at s.locals id ≡ Standing n → is_idle s c ≡ true → Holds (after_hand s c (Giving n id) id (Lifted c))
+pub join_keeps : (s : State) (c n id : ℕ) → Holds s → local_at s.locals id ≡ Standing n → Events.is_idle s c ≡ true → Holds (Events.after_hand s c (Giving n id) id (Lifted c))
 join_keeps s c n id on at idle =
     let told = idle_tells s c on idle in
     let lt : c < length s.hands = omega (arith, told.0, on.shape.hands) in
@@ -106,7 +107,7 @@ join_keeps s c n id on at idle =
     )
 
 -- the word isn't collected, and one is counted down
-pub count_down_keeps : (s : State) (c n id t : ℕ) → Holds s → hand_at s c ≡ Giving n id → slot_of s.slots n ≡ Some t → count_at s.counts c t ≡ count_at s.nets c t → Holds (after_count_down s c t id)
+pub count_down_keeps : (s : State) (c n id t : ℕ) → Holds s → hand_at s c ≡ Giving n id → slot_of s.slots n ≡ Some t → count_at s.counts c t ≡ count_at s.nets c t → Holds (Events.after_count_down s c t id)
 count_down_keeps s c n id t on hand of same =
     let full = hand_full s c Empty (Giving n id) on hand (λ is. let q : Giving n id ≡ Empty = is in cc) tt in
     let lt : c < s.settings.cpus = omega (arith, full.0, on.shape.hands) in
@@ -122,7 +123,7 @@ count_down_keeps s c n id t on hand of same =
     )
 
 -- the word is collected, and the reference stays
-pub collected_keeps : (s : State) (c n id : ℕ) → Holds s → hand_at s c ≡ Giving n id → Holds (after_collected s c n id)
+pub collected_keeps : (s : State) (c n id : ℕ) → Holds s → hand_at s c ≡ Giving n id → Holds (Events.after_collected s c n id)
 collected_keeps s c n id on hand =
     let full = hand_full s c (Back n id) (Giving n id) on hand (λ is. let q : Giving n id ≡ Empty = is in cc) tt in
     assumption (
@@ -132,7 +133,7 @@ collected_keeps s c n id on hand =
       references_unheld on.references c (Back n id) full.0 (giving_holds s.settings.cpus s.slots s.hands s.due s.locals c n id hand on.references),
     )
 
-pub split_back_keeps : (s : State) (c n id : ℕ) → Holds s → hand_at s c ≡ Back n id → Holds (after_hand s c Empty id (Standing n))
+pub split_back_keeps : (s : State) (c n id : ℕ) → Holds s → hand_at s c ≡ Back n id → Holds (Events.after_hand s c Empty id (Standing n))
 split_back_keeps s c n id on hand =
     let full = hand_full s c Empty (Back n id) on hand (λ is. let q : Back n id ≡ Empty = is in cc) tt in
     let lifted = (back_holds s.settings.cpus s.slots s.hands s.due s.locals c n id hand on.references).1 in
@@ -143,17 +144,17 @@ split_back_keeps s c n id on hand =
       references_split_back on.references c n id full.0 hand,
     )
 
-pub collect_keeps : (s : State) (t c : ℕ) → Holds s → may_collect s t c ≡ true → Holds (after_collect s t c)
+pub collect_keeps : (s : State) (t c : ℕ) → Holds s → Events.may_collect s t c ≡ true → Holds (Events.after_collect s t c)
 collect_keeps s t c on may =
-    let p = and_parts (may_examine s t c) (is_drainable s t && not (mark_at s.marks t c).collected) may in
-    let q = and_parts (is_drainable s t) (not (mark_at s.marks t c).collected) p.1 in
+    let p = and_parts (Events.may_examine s t c) (Events.is_drainable s t && not (mark_at s.marks t c).collected) may in
+    let q = and_parts (Events.is_drainable s t) (not (mark_at s.marks t c).collected) p.1 in
     let d = and_parts (have_passed s.settings.cpus (get_or s.marks t [])) (are_clear s.settings.cpus (get_or s.marks t [])) q.0 in
     let told = may_examine_tells s t c p.0 in
     let place = mark_place s t c told.2.0 on told.2.1 told.1 in
     let clear : (mark_at s.marks t c).clear ≡ true = list_all_within is_clear (get_or s.marks t []) s.settings.cpus c no_mark d.1 told.1 place.1 in
     let still : (mark_at s.marks t c).collected ≡ false = false_from (mark_at s.marks t c).collected q.1 in
     let stand = snapshots_marked s.settings.cpus s.slots s.marks s.due t c (mark_after_collect (mark_at s.marks t c)) refl on.snapshots in
-    let snapshots : SnapshotsStand s.settings.cpus s.slots (after_collect s t c).marks (Adding t (count_at s.counts c t)) =
+    let snapshots : SnapshotsStand s.settings.cpus s.slots (Events.after_collect s t c).marks (Adding t (count_at s.counts c t)) =
     λ u j e is low later. stand u j e is low (λ due. not_at_rest s.due u due.0 told.0 due.1) in
     assumption (
       snapshots,
@@ -168,24 +169,24 @@ collect_keeps s t c on may =
     )
 
 -- a total is all that is written, and the keeper is at rest again
-total_keeps : (s : State) (t v : ℕ) → Holds s → ((u d : ℕ) → s.due ≡ Snapshots u d → ⊥) → CountsOf (after_total s t v) → Holds (after_total s t v)
+total_keeps : (s : State) (t v : ℕ) → Holds s → ((u d : ℕ) → s.due ≡ Snapshots u d → ⊥) → CountsOf (Events.after_total s t v) → Holds (Events.after_total s t v)
 total_keeps s t v on none balance = assumption (length-set s.totals t v ∙ on.shape.totals, snapshots_all s Rest none on)
 
-pub total_add_keeps : (s : State) (t old : ℕ) → Holds s → s.due ≡ Adding t old → Holds (after_total s t (total_at s.totals t + old - bias))
+pub total_add_keeps : (s : State) (t old : ℕ) → Holds s → s.due ≡ Adding t old → Holds (Events.after_total s t (total_at s.totals t + old - bias))
 total_add_keeps s t old on due =
     let gone = due_adding s.settings.cpus s.slots s.hands s.due s.locals t old due on.references in
     total_keeps s t (total_at s.totals t + old - bias) on (λ u d is. let q : Adding t old ≡ Snapshots u d = sym due ∙ is in cc)
     (C.total_add on.balance (fit_of s on) t old gone.0 due (inr gone.1))
 
-pub total_sub_keeps : (s : State) (t : ℕ) → Holds s → s.due ≡ Subtracting t → Holds (after_total s t (total_at s.totals t - 1))
+pub total_sub_keeps : (s : State) (t : ℕ) → Holds s → s.due ≡ Subtracting t → Holds (Events.after_total s t (total_at s.totals t - 1))
 total_sub_keeps s t on due =
     let gone = due_subtracting s.settings.cpus s.slots s.hands s.due s.locals t due on.references in
     total_keeps s t (total_at s.totals t - 1) on (λ u d is. let q : Subtracting t ≡ Snapshots u d = sym due ∙ is in cc)
     (C.total_sub on.balance (fit_of s on) t gone.0 due (inr gone.1))
 
-pub join_keeper_keeps : (s : State) (id n t : ℕ) → Holds s → local_at s.locals id ≡ Standing n → slot_of s.slots n ≡ Some t → may_join_keeper s t ≡ true → Holds (after_join_keeper s id t)
+pub join_keeper_keeps : (s : State) (id n t : ℕ) → Holds s → local_at s.locals id ≡ Standing n → slot_of s.slots n ≡ Some t → Events.may_join_keeper s t ≡ true → Holds (Events.after_join_keeper s id t)
 join_keeper_keeps s id n t on at of may =
-    let p = and_parts (is_retired (slot_at s.slots t)) (may_join s t) may in
+    let p = and_parts (is_retired (slot_at s.slots t)) (Events.may_join s t) may in
     let q = and_parts (at_rest s.due) (is_some_collected s.settings.cpus (get_or s.marks t [])) p.1 in
     let rest : s.due ≡ Rest = at_rest_tells s.due q.0 in
     let has = slot_has s.slots n t of in
@@ -196,10 +197,10 @@ join_keeper_keeps s id n t on at of may =
       references_freed on.references (Subtracting t) id n at gone,
     )
 
-pub keep_keeps : (s : State) (t id n u : ℕ) → Holds s → local_at s.locals id ≡ Standing n → slot_of s.slots n ≡ Some u → may_keep s t u ≡ true → Holds (after_keep s t id n)
+pub keep_keeps : (s : State) (t id n u : ℕ) → Holds s → local_at s.locals id ≡ Standing n → slot_of s.slots n ≡ Some u → Events.may_keep s t u ≡ true → Holds (Events.after_keep s t id n)
 keep_keeps s t id n u on at of may =
-    let p = and_parts (may_write s t) (is_none (kept_at s.keeps t) && is_driver_slot (slot_at s.slots u)) may in
-    let q = and_parts (is_none (kept_at s.keeps t)) (is_driver_slot (slot_at s.slots u)) p.1 in
+    let p = and_parts (Events.may_write s t) (is_none (kept_at s.keeps t) && Events.is_driver_slot (slot_at s.slots u)) may in
+    let q = and_parts (is_none (kept_at s.keeps t)) (Events.is_driver_slot (slot_at s.slots u)) p.1 in
     let told = may_write_tells s t on.shape p.0 in
     assumption (
       length-set s.keeps t (Some n) ∙ on.shape.keeps,
@@ -215,10 +216,10 @@ pub passive_place : (s : State) (c t : ℕ) → Holds s → c < s.settings.cpus 
 passive_place s c t on low within = grind (arith, cpus_fit)
 
 -- what the test of a Try tells
-pub may_try_tells : (s : State) (c t n : ℕ) → may_try s c t n ≡ true → (is_idle s c ≡ true) × (n ≤ seen_at s c) × (t < s.settings.slots) × (passive_at s.passive c t < s.settings.passive_limit)
+pub may_try_tells : (s : State) (c t n : ℕ) → Events.may_try s c t n ≡ true → (Events.is_idle s c ≡ true) × (n ≤ seen_at s c) × (t < s.settings.slots) × (passive_at s.passive c t < s.settings.passive_limit)
 may_try_tells s c t n may = grind (arith, and_parts, leb-true, ltb-true)
 
-pub try_keeps : (s : State) (c t n : ℕ) → Holds s → may_try s c t n ≡ true → Holds (after_try s c t n)
+pub try_keeps : (s : State) (c t n : ℕ) → Holds s → Events.may_try s c t n ≡ true → Holds (Events.after_try s c t n)
 try_keeps s c t n on may =
     let told = may_try_tells s c t n may in
     let idle = idle_tells s c on told.0 in
@@ -254,7 +255,7 @@ trying_tells s c t n on hand =
 pub tried_seen : (s : State) (c t n : ℕ) → Holds s → hand_at s c ≡ Trying t n → n ≤ seen_at s c
 tried_seen s c t n on hand = subst (IsSeenInHand (seen_at s c)) hand (on.tries c)
 
-pub take_back_keeps : (s : State) (c t n : ℕ) → Holds s → hand_at s c ≡ Trying t n → Holds (after_take_back s c t)
+pub take_back_keeps : (s : State) (c t n : ℕ) → Holds s → hand_at s c ≡ Trying t n → Holds (Events.after_take_back s c t)
 take_back_keeps s c t n on hand =
     let told = trying_tells s c t n on hand in
     let place = passive_place s c t on told.0 told.1 in
@@ -272,10 +273,10 @@ take_back_keeps s c t n on hand =
     )
 
 -- what the test of a live word tells: the slot's entry is live
-pub live_tells : (n : ℕ) (x : Slot) → has_live n x ≡ true → (e : Entry) × (e.number ≡ n) × (x ≡ Live e)
+pub live_tells : (n : ℕ) (x : Slot) → Events.has_live n x ≡ true → (e : Entry) × (e.number ≡ n) × (x ≡ Live e)
 live_tells n x may = grind (arith, eqb-true)
 
-pub taking_keeps : (s : State) (c t n : ℕ) → Holds s → hand_at s c ≡ Trying t n → has_live n (slot_at s.slots t) ≡ true → Holds (after_taking s c)
+pub taking_keeps : (s : State) (c t n : ℕ) → Holds s → hand_at s c ≡ Trying t n → Events.has_live n (slot_at s.slots t) ≡ true → Holds (Events.after_taking s c)
 taking_keeps s c t n on hand may =
     let told = trying_tells s c t n on hand in
     let is = live_tells n (slot_at s.slots t) may in
@@ -289,9 +290,9 @@ taking_keeps s c t n on hand may =
     )
 
 -- what the test of a Confirm tells: the entry is live
-pub confirm_tells : (s : State) (c n : ℕ) (x : Slot) → may_confirm s c n x ≡ true → (search_at s c ≡ None) × (has_live n x ≡ true)
-confirm_tells s c n x may = let p = and_parts (is_none (search_at s c)) (has_live n x) may in (none_from (search_at s c) p.0, p.1)
+pub confirm_tells : (s : State) (c n : ℕ) (x : Slot) → Events.may_confirm s c n x ≡ true → (search_at s c ≡ None) × (Events.has_live n x ≡ true)
+confirm_tells s c n x may = let p = and_parts (is_none (search_at s c)) (Events.has_live n x) may in (none_from (search_at s c) p.0, p.1)
 
-pub confirm_keeps : (s : State) (c t n : ℕ) → Holds s → hand_at s c ≡ Trying t n → may_confirm s c n (slot_at s.slots t) ≡ true → Holds (after_confirm s c)
+pub confirm_keeps : (s : State) (c t n : ℕ) → Holds s → hand_at s c ≡ Trying t n → Events.may_confirm s c n (slot_at s.slots t) ≡ true → Holds (Events.after_confirm s c)
 confirm_keeps s c t n on hand may =
-    see_keeps (after_taking s c) c (taking_keeps s c t n on hand (confirm_tells s c n (slot_at s.slots t) may).1) (trying_tells s c t n on hand).0
+    see_keeps (Events.after_taking s c) c (taking_keeps s c t n on hand (confirm_tells s c n (slot_at s.slots t) may).1) (trying_tells s c t n on hand).0

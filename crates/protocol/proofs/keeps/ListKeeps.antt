@@ -10,7 +10,8 @@ use Rattle.protocol.proofs.History.{found_old, searches_old, sections_old, lengt
 use Rattle.protocol.proofs.keeps.Marking.{marks_detach, snapshots_detach, passive_attach, passive_detach}
 use Rattle.protocol.proofs.keeps.Linking.{at_head, at_link, held_attach, legal_attach, links_attach, list_attach, marks_attach, rows_attach, slots_attach, before_leads, head_leads, held_detach, legal_detach, link_to, links_detach, list_unlink, rows_detach, slots_detach, within_live, retired_before}
 use Rattle.protocol.specs.History.{rank_at}
-use Rattle.protocol.specs.Common.{after_link_store, after_publish, after_row_store, after_unpublish, are_unused, entry_of, keeps_rightly, may_publish, may_write, with_retired, with_link_past, with_word, words_of, after_change, AreRows, CountsHold, DriversKept, HasShape, Holds, IsIn, Leads, LinksStay, ListShows, ReferencesHold, RowsShow, SnapshotsStand, one_if, at_rest, State, kept_at, no_words, row_at, with_cell, Rest, RecordWords}
+use Rattle.protocol.specs.Common.{after_change, AreRows, CountsHold, DriversKept, HasShape, Holds, IsIn, Leads, LinksStay, ListShows, ReferencesHold, RowsShow, SnapshotsStand, one_if, at_rest, State, kept_at, no_words, row_at, with_cell, Rest, RecordWords}
+use Rattle.protocol.specs.Events
 use Rattle.protocol.specs.Types.{MOST_CPUS, Attach, Detach, Entry, Key, Slot, Live, Retired, Vacant}
 use Rattle.registry_values.specs.Common.{key_of, is_live, is_taken, live_count, same_key, slot_before, slot_at, bias, no_mark}
 use Rattle.registry_values.specs.Names.{are_key_words}
@@ -31,7 +32,7 @@ pub false_from : (b : Bool) → not b ≡ true → b ≡ false
 false_from b is = grind arith
 
 -- the slot that may be written is in range and vacant, and the keeper at rest
-pub may_write_tells : (s : State) (t : ℕ) → HasShape s → may_write s t ≡ true → (s.due ≡ Rest) × (t < length s.slots) × (slot_at s.slots t ≡ Vacant)
+pub may_write_tells : (s : State) (t : ℕ) → HasShape s → Events.may_write s t ≡ true → (s.due ≡ Rest) × (t < length s.slots) × (slot_at s.slots t ≡ Vacant)
 may_write_tells s t shape may = grind (arith, and_parts, at_rest_tells, ltb-true, is_vacant_tells)
 
 -- what an entry that may be published shows
@@ -43,10 +44,10 @@ pub record IsPublishable (s : State) (t : ℕ) (e : Entry) : Type 0 where
   pub free : is_taken (key_of e) s.slots ≡ false
   pub room : length s.history + live_count s.slots + 2 ≤ s.settings.change_limit
   pub link : get_or s.next t 0 ≡ s.head
-  pub unused : are_unused s t ≡ true
-  pub rightly : keeps_rightly (kept_at s.keeps t) e.rec.kind ≡ true
+  pub unused : Events.are_unused s t ≡ true
+  pub rightly : Events.keeps_rightly (kept_at s.keeps t) e.rec.kind ≡ true
 
-pub may_publish_tells : (s : State) (t : ℕ) (e : Entry) → HasShape s → may_publish s t e ≡ true → IsPublishable s t e
+pub may_publish_tells : (s : State) (t : ℕ) (e : Entry) → HasShape s → Events.may_publish s t e ≡ true → IsPublishable s t e
 may_publish_tells s t e shape may = grind (arith, and_parts, may_write_tells, eqb-true, false_from, leb-true)
 
 same_key_own : (k : Key) → same_key k k ≡ true
@@ -82,12 +83,12 @@ rows_store slots rows t r vacant show u f is =
     let was = show u f is in
     (get_or-set_other rows t u r no_words off ∙ was.0, was.1)
 
-pub row_store_keeps : (s : State) (t k v : ℕ) → Holds s → may_write s t ≡ true → Holds (after_row_store s t k v)
+pub row_store_keeps : (s : State) (t k v : ℕ) → Holds s → Events.may_write s t ≡ true → Holds (Events.after_row_store s t k v)
 row_store_keeps s t k v on may =
     let told = may_write_tells s t on.shape may in
-    assumption (length-set s.rows t (with_word (row_at s.rows t) k v) ∙ on.shape.rows, rows_store s.slots s.rows t (with_word (row_at s.rows t) k v) told.2 on.rows)
+    assumption (length-set s.rows t (Events.with_word (row_at s.rows t) k v) ∙ on.shape.rows, rows_store s.slots s.rows t (Events.with_word (row_at s.rows t) k v) told.2 on.rows)
 
-pub link_store_keeps : (s : State) (t v : ℕ) → Holds s → may_write s t ≡ true → Holds (after_link_store s t v)
+pub link_store_keeps : (s : State) (t v : ℕ) → Holds s → Events.may_write s t ≡ true → Holds (Events.after_link_store s t v)
 link_store_keeps s t v on may =
     let told = may_write_tells s t on.shape may in
     let same : (u : ℕ) (f : Entry) → IsIn f (slot_at s.slots u) → get_or (set s.next t v) u 0 ≡ get_or s.next u 0 =
@@ -99,12 +100,12 @@ link_store_keeps s t v on may =
     assumption (length-set s.next t v ∙ on.shape.links)
 
 -- the words of a row are its entry's
-pub entry_shows : (t : ℕ) (r : RecordWords) (e : Entry) → entry_of t r ≡ Some e → (e.slot ≡ t) × (r ≡ words_of e) × (are_key_words e.rec.name.high e.rec.name.low ≡ true)
+pub entry_shows : (t : ℕ) (r : RecordWords) (e : Entry) → Events.entry_of t r ≡ Some e → (e.slot ≡ t) × (r ≡ Events.words_of e) × (are_key_words e.rec.name.high e.rec.name.low ≡ true)
 entry_shows t r e is = grind (arith, none-some, same_Some)
 
 -- an entry is published in its own slot
-publish_own : (s : State) (e : Entry) → Holds s → row_at s.rows e.slot ≡ words_of e → are_key_words e.rec.name.high e.rec.name.low ≡ true → may_publish s e.slot e ≡ true
-    → CountsOf (after_publish s e.slot e) → ReferencesOf (after_publish s e.slot e) → DriversOf (after_publish s e.slot e) → Holds (after_publish s e.slot e)
+publish_own : (s : State) (e : Entry) → Holds s → row_at s.rows e.slot ≡ Events.words_of e → are_key_words e.rec.name.high e.rec.name.low ≡ true → Events.may_publish s e.slot e ≡ true
+    → CountsOf (Events.after_publish s e.slot e) → ReferencesOf (Events.after_publish s e.slot e) → DriversOf (Events.after_publish s e.slot e) → Holds (Events.after_publish s e.slot e)
 publish_own s e on row name may counts references drivers =
     let told = may_publish_tells s e.slot e on.shape may in
     let more : live_count (set s.slots e.slot (Live e)) + 0 ≡ live_count s.slots + 1 = live_count_put s.slots e.slot Vacant (Live e) told.within told.vacant in
@@ -132,12 +133,12 @@ publish_own s e on row name may counts references drivers =
       passive_attach s.settings.cpus s.settings.passive_limit s.slots s.marks s.passive s.hands e told.within on.passive,
     )
 
-pub publish_keeps : (s : State) (t : ℕ) (e : Entry) → Holds s → entry_of t (row_at s.rows t) ≡ Some e → may_publish s t e ≡ true
-    → CountsOf (after_publish s t e) → ReferencesOf (after_publish s t e) → DriversOf (after_publish s t e) → Holds (after_publish s t e)
+pub publish_keeps : (s : State) (t : ℕ) (e : Entry) → Holds s → Events.entry_of t (row_at s.rows t) ≡ Some e → Events.may_publish s t e ≡ true
+    → CountsOf (Events.after_publish s t e) → ReferencesOf (Events.after_publish s t e) → DriversOf (Events.after_publish s t e) → Holds (Events.after_publish s t e)
 publish_keeps s t e on is =
     let told = entry_shows t (row_at s.rows t) e is in
-    subst (λ (u : ℕ). row_at s.rows u ≡ words_of e → may_publish s u e ≡ true → CountsOf (after_publish s u e) → ReferencesOf (after_publish s u e) → DriversOf (after_publish s u e)
-    → Holds (after_publish s u e))
+    subst (λ (u : ℕ). row_at s.rows u ≡ Events.words_of e → Events.may_publish s u e ≡ true → CountsOf (Events.after_publish s u e) → ReferencesOf (Events.after_publish s u e) → DriversOf (Events.after_publish s u e)
+    → Holds (Events.after_publish s u e))
     told.0 (λ row may counts references drivers. publish_own s e on row told.2 may counts references drivers) told.1
 
 -- the first store leaves all but the head and one link
@@ -145,7 +146,7 @@ fit_unlinked : (s : State) (e : Entry) (head : ℕ) (next : List ℕ) → Holds 
     → length next ≡ length s.next
     → ListShows (after_change s.history (Detach e.number)) (set s.slots e.slot (Retired e)) head next
     → LinksStay (after_change s.history (Detach e.number)) (set s.slots e.slot (Retired e)) next s.begins
-    → CountsOf (with_retired s e.slot e) → ReferencesOf (with_retired s e.slot e) → DriversOf (with_retired s e.slot e) → Holds (with_retired (record s { head = head; next = next }) e.slot e)
+    → CountsOf (Events.with_retired s e.slot e) → ReferencesOf (Events.with_retired s e.slot e) → DriversOf (Events.with_retired s e.slot e) → Holds (Events.with_retired (record s { head = head; next = next }) e.slot e)
 fit_unlinked s e head next on at rest next_size list links counts references drivers =
     let lt : e.slot < length s.slots = within_live s.slots e.slot e at in
     let lm : e.slot < length s.marks = omega (arith, on.shape.slots, on.shape.marks) in
@@ -171,7 +172,7 @@ fit_unlinked s e head next on at rest next_size list links counts references dri
 
 -- an entry is unlinked from its own slot
 unlink_own : (s : State) (e : Entry) (o : Option ℕ) → Holds s → slot_at s.slots e.slot ≡ Live e → at_rest s.due ≡ true → slot_before s.slots s.next e.slot ≡ o
-    → CountsOf (with_retired s e.slot e) → ReferencesOf (with_retired s e.slot e) → DriversOf (with_retired s e.slot e) → Holds (with_retired (with_link_past s e.slot o) e.slot e)
+    → CountsOf (Events.with_retired s e.slot e) → ReferencesOf (Events.with_retired s e.slot e) → DriversOf (Events.with_retired s e.slot e) → Holds (Events.with_retired (Events.with_link_past s e.slot o) e.slot e)
 unlink_own s e None on at rest is counts references drivers =
     let size : length s.next ≡ length s.slots = on.shape.links ∙ sym on.shape.slots in
     let first : s.head ≡ suc e.slot = head_leads s.history s.slots s.head s.next e on.legal on.slots on.list size at is in
@@ -196,8 +197,8 @@ unlink_own s e (Some p) on at rest is counts references drivers =
     counts references drivers
 
 pub unpublish_keeps : (s : State) (t : ℕ) (e : Entry) → Holds s → slot_at s.slots t ≡ Live e → at_rest s.due ≡ true
-    → CountsOf (with_retired s t e) → ReferencesOf (with_retired s t e) → DriversOf (with_retired s t e) → Holds (after_unpublish s t e)
+    → CountsOf (Events.with_retired s t e) → ReferencesOf (Events.with_retired s t e) → DriversOf (Events.with_retired s t e) → Holds (Events.after_unpublish s t e)
 unpublish_keeps s t e on is rest =
     let slot : e.slot ≡ t = (on.slots.live t e is).1 in
-    subst (λ (u : ℕ). slot_at s.slots u ≡ Live e → CountsOf (with_retired s u e) → ReferencesOf (with_retired s u e) → DriversOf (with_retired s u e) → Holds (after_unpublish s u e))
+    subst (λ (u : ℕ). slot_at s.slots u ≡ Live e → CountsOf (Events.with_retired s u e) → ReferencesOf (Events.with_retired s u e) → DriversOf (Events.with_retired s u e) → Holds (Events.after_unpublish s u e))
     slot (λ at counts references drivers. unlink_own s e (slot_before s.slots s.next e.slot) on at rest refl counts references drivers) is

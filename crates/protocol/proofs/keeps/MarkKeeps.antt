@@ -8,7 +8,8 @@ use Rattle.protocol.proofs.History.{at_empty, empty_brings, empty_ends}
 use Rattle.protocol.proofs.keeps.ListKeeps.{CountsOf, DriversOf, ReferencesOf, cell_sized, live_count_put}
 use Rattle.protocol.proofs.keeps.Marking.{held_vacate, list_all_within, marks_look, marks_snapshot, marks_vacate, marks_write, slots_vacate, snapshots_marked, snapshots_taken, found_not_passed, passive_counted, passive_marked, passive_vacate, vacated_before}
 use Rattle.protocol.proofs.keeps.Linking.{within_retired}
-use Rattle.protocol.specs.Common.{after_add, after_kept_sub, after_look, after_look_passive, after_snapshot, after_sub, after_vacate, is_drainable, is_drained, is_idle, is_number, is_snapshot_due, may_add, may_examine, may_look_passive, may_sub, may_vacate, snapshot_mark, AreRows, DueHolds, Holds, SnapshotsStand, To_end, at_rest, State, found_at, kept_at, mark_at, opening, passive_at, trying_at, trying_of, section_at, total_at, Rest, Snapshots, Empty, IsSeenInHand, IsLegal, SlotsShow, MarksHold, IsIn}
+use Rattle.protocol.specs.Common.{AreRows, DueHolds, Holds, SnapshotsStand, To_end, at_rest, State, found_at, kept_at, mark_at, opening, passive_at, trying_at, trying_of, section_at, total_at, Rest, Snapshots, Empty, IsSeenInHand, IsLegal, SlotsShow, MarksHold, IsIn}
+use Rattle.protocol.specs.Events
 use Rattle.registry_values.specs.Common.{mark_after_passive_look, mark_after_look, are_collected, has_changed, have_passed, is_clear, is_collected, is_even, is_passed, no_mark, are_fit, is_retired, live_count, slot_of, slot_at, bias}
 use Rattle.registry_values.proofs.Fit.{ranges}
 use Rattle.protocol.specs.Types.{Attach, Replace, Entry, Settings, MOST_CPUS, Mark, Live, Retired, Vacant}
@@ -28,21 +29,21 @@ mark_place s t c e on is low =
     let lt : t < length s.marks = omega (arith, within_retired s.slots t e is, on.shape.slots, on.shape.marks) in
     (lt, omega (arith, on.shape.mark_rows t lt, cpus_fit s.settings on.fit))
 
-pub snapshot_keeps : (s : State) (t c : ℕ) → Holds s → is_snapshot_due s.due t c ≡ true
-    → CountsOf (after_snapshot s t c) → ReferencesOf (after_snapshot s t c) → Holds (after_snapshot s t c)
+pub snapshot_keeps : (s : State) (t c : ℕ) → Holds s → Events.is_snapshot_due s.due t c ≡ true
+    → CountsOf (Events.after_snapshot s t c) → ReferencesOf (Events.after_snapshot s t c) → Holds (Events.after_snapshot s t c)
 snapshot_keeps s t c on is counts references =
     let due : s.due ≡ Snapshots t c = snapshot_due_tells s.due t c is in
     let there : DueHolds s.settings.cpus s.slots (Snapshots t c) = subst (DueHolds s.settings.cpus s.slots) due on.references.due_at in
     let place = mark_place s t c there.1.0 on there.1.1 there.0 in
     assumption (
-      cell_sized s.marks t c (snapshot_mark (section_at s c)) on.shape.marks on.shape.mark_rows,
+      cell_sized s.marks t c (Events.snapshot_mark (section_at s c)) on.shape.marks on.shape.mark_rows,
       marks_snapshot s.history s.slots s.marks s.section s.begins t c on.grace,
       snapshots_taken s.settings.cpus s.slots s.marks t c (section_at s c) place.0 place.1 (subst (SnapshotsStand s.settings.cpus s.slots s.marks) due on.snapshots),
-      passive_marked s.settings.cpus s.settings.passive_limit s.slots s.marks s.passive s.hands t c (snapshot_mark (section_at s c))
+      passive_marked s.settings.cpus s.settings.passive_limit s.slots s.marks s.passive s.hands t c (Events.snapshot_mark (section_at s c))
           (λ e is holds. absurd (let q : ◌≡◌ {A = Bool} false true = holds in cc)) (λ e is holds. absurd (let q : ◌≡◌ {A = Bool} false true = holds in cc)) on.passive,
     )
 
-pub look_keeps : (s : State) (t c : ℕ) → Holds s → may_examine s t c ≡ true → CountsOf (after_look s t c) → Holds (after_look s t c)
+pub look_keeps : (s : State) (t c : ℕ) → Holds s → Events.may_examine s t c ≡ true → CountsOf (Events.after_look s t c) → Holds (Events.after_look s t c)
 look_keeps s t c on may counts =
     assumption (
       cell_sized s.marks t c (mark_after_look (mark_at s.marks t c) (section_at s c)) on.shape.marks on.shape.mark_rows,
@@ -54,12 +55,12 @@ look_keeps s t c on may counts =
     )
 
 -- what a slot that may be examined shows
-pub may_examine_tells : (s : State) (t c : ℕ) → may_examine s t c ≡ true → (s.due ≡ Rest) × (c < s.settings.cpus) × ((e : Entry) × (slot_at s.slots t ≡ Retired e))
+pub may_examine_tells : (s : State) (t c : ℕ) → Events.may_examine s t c ≡ true → (s.due ≡ Rest) × (c < s.settings.cpus) × ((e : Entry) × (slot_at s.slots t ≡ Retired e))
 may_examine_tells s t c may = grind (arith, and_parts, at_rest_tells, ltb-true, is_retired_tells)
 
-pub look_passive_keeps : (s : State) (t c : ℕ) → Holds s → may_look_passive s t c ≡ true → CountsOf (after_look_passive s t c) → Holds (after_look_passive s t c)
+pub look_passive_keeps : (s : State) (t c : ℕ) → Holds s → Events.may_look_passive s t c ≡ true → CountsOf (Events.after_look_passive s t c) → Holds (Events.after_look_passive s t c)
 look_passive_keeps s t c on may counts =
-    let p = and_parts (may_examine s t c) (have_passed s.settings.cpus (get_or s.marks t [])) may in
+    let p = and_parts (Events.may_examine s t c) (have_passed s.settings.cpus (get_or s.marks t [])) may in
     let told = may_examine_tells s t c p.0 in
     let place = mark_place s t c told.2.0 on told.2.1 told.1 in
     let passed : (mark_at s.marks t c).passed ≡ true = list_all_within is_passed (get_or s.marks t []) s.settings.cpus c no_mark p.1 told.1 place.1 in
@@ -79,10 +80,10 @@ look_passive_keeps s t c on may counts =
           (λ e is holds. ap (λ (b : Bool). b || (passive_at s.passive c t == 0)) (on.passive.collected c t e is holds)) on.passive,
     )
 
-pub add_keeps : (s : State) (c n t : ℕ) → Holds s → slot_of s.slots n ≡ Some t → may_add s c n t ≡ true → Holds (after_add s c t)
+pub add_keeps : (s : State) (c n t : ℕ) → Holds s → slot_of s.slots n ≡ Some t → Events.may_add s c n t ≡ true → Holds (Events.after_add s c t)
 add_keeps s c n t on of may =
-    let p = and_parts (is_idle s c) ((is_number n (found_at s c) || nat_lt 0 (passive_at s.passive c t)) && nat_lt (passive_at s.passive c t) s.settings.passive_limit) may in
-    let q = and_parts (is_number n (found_at s c) || nat_lt 0 (passive_at s.passive c t)) (nat_lt (passive_at s.passive c t) s.settings.passive_limit) p.1 in
+    let p = and_parts (Events.is_idle s c) ((Events.is_number n (found_at s c) || nat_lt 0 (passive_at s.passive c t)) && nat_lt (passive_at s.passive c t) s.settings.passive_limit) may in
+    let q = and_parts (Events.is_number n (found_at s c) || nat_lt 0 (passive_at s.passive c t)) (nat_lt (passive_at s.passive c t) s.settings.passive_limit) p.1 in
     let idle = idle_tells s c on p.0 in
     let low : c < s.settings.cpus = idle.0 in
     let untried : trying_at s.hands c t ≡ 0 = ap (trying_of t) idle.1 in
@@ -92,19 +93,19 @@ add_keeps s c n t on of may =
       cell_sized s.passive t c (passive_at s.passive c t + 1) on.shape.passive on.shape.passive_rows,
       passive_counted s.settings.cpus s.settings.passive_limit s.slots s.marks s.passive s.hands c t (passive_at s.passive c t + 1) low (omega (arith, fits)) (omega (arith, untried))
           (λ vacant. not_vacant there.1.0 (slot_at s.slots t) vacant there.1.1)
-          (λ e gone clear. either (or_cases (is_number n (found_at s c)) (nat_lt 0 (passive_at s.passive c t)) q.0)
+          (λ e gone clear. either (or_cases (Events.is_number n (found_at s c)) (nat_lt 0 (passive_at s.passive c t)) q.0)
           (λ f.
           let same : there.1.0 ≡ e = retired_one there.1.0 e (slot_at s.slots t) gone there.1.1 in
           let number : n ≡ e.number = sym there.1.2 ∙ ap (λ (g : Entry). g.number) same in
-          found_not_passed s.history s.slots s.marks s.section s.begins s.found c t e on.slots on.grace on.last_found gone (ap (λ (k : ℕ). is_number k (found_at s c)) (sym number) ∙ f)
+          found_not_passed s.history s.slots s.marks s.section s.begins s.found c t e on.slots on.grace on.last_found gone (ap (λ (k : ℕ). Events.is_number k (found_at s c)) (sym number) ∙ f)
           (on.passive.clear c t e gone clear).0)
           (λ h. omega (arith, untried, ltb-true 0 (passive_at s.passive c t) h, (on.passive.clear c t e gone clear).1)))
           on.passive,
     )
 
-pub sub_keeps : (s : State) (c t : ℕ) → Holds s → may_sub s c t ≡ true → Holds (after_sub s c t)
+pub sub_keeps : (s : State) (c t : ℕ) → Holds s → Events.may_sub s c t ≡ true → Holds (Events.after_sub s c t)
 sub_keeps s c t on may =
-    let p = and_parts (is_idle s c) (nat_lt 0 (passive_at s.passive c t)) may in
+    let p = and_parts (Events.is_idle s c) (nat_lt 0 (passive_at s.passive c t)) may in
     let some : 0 < passive_at s.passive c t = ltb-true 0 (passive_at s.passive c t) p.1 in
     let idle = idle_tells s c on p.0 in
     let untried : trying_at s.hands c t ≡ 0 = ap (trying_of t) idle.1 in
@@ -115,7 +116,7 @@ sub_keeps s c t on may =
     )
 
 -- what a drained slot shows
-pub is_drained_tells : (s : State) (t : ℕ) → Holds s → is_drained s t ≡ true
+pub is_drained_tells : (s : State) (t : ℕ) → Holds s → Events.is_drained s t ≡ true
     → (s.due ≡ Rest) × ((e : Entry) × (slot_at s.slots t ≡ Retired e)) × ((c : ℕ) → c < s.settings.cpus → (mark_at s.marks t c).passed ≡ true)
     × ((c : ℕ) → c < s.settings.cpus → (mark_at s.marks t c).clear ≡ true)
     × ((c : ℕ) → c < s.settings.cpus → (mark_at s.marks t c).collected ≡ true) × (total_at s.totals t ≡ bias)
@@ -123,7 +124,7 @@ is_drained_tells s t on is =
     let row : List Mark = get_or s.marks t [] in
     let p = and_parts (at_rest s.due) _ is in
     let p1 = and_parts (is_retired (slot_at s.slots t)) _ p.1 in
-    let p2 = and_parts (is_drainable s t) _ p1.1 in
+    let p2 = and_parts (Events.is_drainable s t) _ p1.1 in
     let p3 = and_parts (are_collected s.settings.cpus row) _ p2.1 in
     let p4 = and_parts (have_passed s.settings.cpus row) _ p2.0 in
     let gone = is_retired_tells (slot_at s.slots t) p1.0 in
@@ -140,7 +141,7 @@ is_drained_tells s t on is =
 abbrev vacated : State → ℕ → List ℕ → List (Option ℕ) → State
 vacated s t totals keeps = record s { totals = totals; slots = set s.slots t Vacant; keeps = keeps }
 
-pub vacated_keeps : (s : State) (t : ℕ) (totals : List ℕ) (keeps : List (Option ℕ)) → Holds s → is_drained s t ≡ true → length totals ≡ length s.totals → length keeps ≡ length s.keeps
+pub vacated_keeps : (s : State) (t : ℕ) (totals : List ℕ) (keeps : List (Option ℕ)) → Holds s → Events.is_drained s t ≡ true → length totals ≡ length s.totals → length keeps ≡ length s.keeps
     → CountsOf (vacated s t totals keeps) → ReferencesOf (vacated s t totals keeps) → DriversOf (vacated s t totals keeps) → Holds (vacated s t totals keeps)
 vacated_keeps s t totals keeps on drained total_size keep_size counts references drivers =
     let told = is_drained_tells s t on drained in
@@ -166,13 +167,13 @@ vacated_keeps s t totals keeps on drained total_size keep_size counts references
     within_begin : (xs : List (Option ℕ)) (c b : ℕ) → get_or xs c None ≡ Some b → c < length xs
     within_begin xs c b is = either (cases_lt c (length xs)) (λ lt. lt) (λ ge. absurd (none-some b (sym (get_or_past xs c None ge) ∙ is)))
 
-pub vacate_keeps : (s : State) (t : ℕ) → Holds s → may_vacate s t ≡ true
-    → CountsOf (after_vacate s t) → ReferencesOf (after_vacate s t) → DriversOf (after_vacate s t) → Holds (after_vacate s t)
+pub vacate_keeps : (s : State) (t : ℕ) → Holds s → Events.may_vacate s t ≡ true
+    → CountsOf (Events.after_vacate s t) → ReferencesOf (Events.after_vacate s t) → DriversOf (Events.after_vacate s t) → Holds (Events.after_vacate s t)
 vacate_keeps s t on may counts references drivers =
-    vacated_keeps s t s.totals s.keeps on (and_parts (is_none (kept_at s.keeps t)) (is_drained s t) may).1 refl refl counts references drivers
+    vacated_keeps s t s.totals s.keeps on (and_parts (is_none (kept_at s.keeps t)) (Events.is_drained s t) may).1 refl refl counts references drivers
 
-pub kept_sub_keeps : (s : State) (t u : ℕ) → Holds s → is_drained s t ≡ true
-    → CountsOf (after_kept_sub s t u) → ReferencesOf (after_kept_sub s t u) → DriversOf (after_kept_sub s t u) → Holds (after_kept_sub s t u)
+pub kept_sub_keeps : (s : State) (t u : ℕ) → Holds s → Events.is_drained s t ≡ true
+    → CountsOf (Events.after_kept_sub s t u) → ReferencesOf (Events.after_kept_sub s t u) → DriversOf (Events.after_kept_sub s t u) → Holds (Events.after_kept_sub s t u)
 kept_sub_keeps s t u on drained counts references drivers =
     vacated_keeps s t (set s.totals u (total_at s.totals u - 1)) (set s.keeps t None) on drained (length-set s.totals u _) (length-set s.keeps t None) counts references drivers
 

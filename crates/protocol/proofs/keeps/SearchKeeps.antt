@@ -4,7 +4,8 @@ use Rattle.std.proofs.lemmas.Bool.{and_parts}
 use Rattle.protocol.specs.Types.{Entry, Key, Change}
 use Rattle.protocol.specs.History.{rank_at}
 use Rattle.registry_values.specs.Common.{are_words_of}
-use Rattle.protocol.specs.Common.{Reply, Done, Word, Found, Missed, Ref, Collected, SearchPlace, AtHead, AtNext, AtNumber, AtKind, AtHigh, AtLow, AtValue, Search, MayHold, IsLawful, State, begin_at, seen_at, search_at, row_at, entry_with, loaded_of_name, Outcome, is_idle, is_inside, may_seek, after_seek, after_seeing, with_search_at, search_over, link_loaded, load_link, load_searched, outcome_of, StandsOn, PlaceHolds, SearchHolds, FoundHold, Holds, Keeps, Loaded, loaded_at, row_of_place}
+use Rattle.protocol.specs.Common.{Reply, Done, Word, Found, Missed, Ref, Collected, SearchPlace, AtHead, AtNext, AtNumber, AtKind, AtHigh, AtLow, AtValue, Search, MayHold, IsLawful, State, begin_at, seen_at, search_at, row_at, entry_with, loaded_of_name, Outcome, StandsOn, PlaceHolds, SearchHolds, FoundHold, Holds, Keeps, Loaded, loaded_at, row_of_place}
+use Rattle.protocol.specs.Events
 use Rattle.protocol.proofs.keeps.SectionKeeps.{seats_search, seated_search, some_from, idle_parts, see_keeps}
 use Rattle.protocol.proofs.keeps.Searching.{within_some, searches_over, searches_on, found_none, found_some, Walks, search_walks, head_ahead, next_ahead, LinkTells, link_tells, goes_on, found_is, weight, Steps, load_link_steps, load_searched_steps, at_next_ahead}
 
@@ -34,9 +35,9 @@ searching_keeps s c q on lt now =
       searches_on s.history s.begins s.seen s.searches c q cs now on.searches,
     )
 
-pub seek_keeps : (s : State) (c : ℕ) (key : Key) → Holds s → may_seek s c ≡ true → Holds (after_seek s c key)
+pub seek_keeps : (s : State) (c : ℕ) (key : Key) → Holds s → Events.may_seek s c ≡ true → Holds (Events.after_seek s c key)
 seek_keeps s c key on ok =
-    let p = and_parts (is_idle s c) (is_inside s c) ok in
+    let p = and_parts (Events.is_idle s c) (Events.is_inside s c) ok in
     let idle = idle_parts s c p.0 in
     let in_ : (b : ℕ) × (begin_at s c ≡ Some b) = some_from (begin_at s c) p.1 in
     searching_keeps s c (record { key = key; start = seen_at s c; place = AtHead }) on idle.0
@@ -44,7 +45,7 @@ seek_keeps s c key on ok =
 
 -- a search goes on, at a place that holds
 pub going_on_keeps : (s : State) (c : ℕ) (q : Search) (place : SearchPlace) → Holds s → search_at s c ≡ Some q
-    → PlaceHolds s.history q.start (seen_at s c) q.key place → Holds (with_search_at s c q place)
+    → PlaceHolds s.history q.start (seen_at s c) q.key place → Holds (Events.with_search_at s c q place)
 going_on_keeps s c q place on is p =
     let was : SearchHolds s.history (begin_at s c) (seen_at s c) q = on.searches c q is in
     searching_keeps s c (record { key = q.key; start = q.start; place = place }) on (seated_search s.settings.cpus s.seated s.begins s.searches s.hands c q on.seats is)
@@ -52,7 +53,7 @@ going_on_keeps s c q place on is p =
 
 -- a search is over, without an entry or with one that the section may hold
 over_keeps : (s : State) (c : ℕ) (q : Search) (found : Option Entry) → Holds s → search_at s c ≡ Some q → (c < length s.found → FoundHold s.history s.begins (set s.found c found))
-    → Holds (search_over s c found)
+    → Holds (Events.search_over s c found)
 over_keeps s c q found on is last_found =
     let cs : c < length s.searches = within_some s.searches c q is in
     assumption (
@@ -63,24 +64,24 @@ over_keeps s c q found on is last_found =
       last_found (omega (arith, on.shape.found, on.shape.searches)),
     )
 
-pub search_missed_keeps : (s : State) (c : ℕ) (q : Search) → Holds s → search_at s c ≡ Some q → Holds (search_over s c None)
+pub search_missed_keeps : (s : State) (c : ℕ) (q : Search) → Holds s → search_at s c ≡ Some q → Holds (Events.search_over s c None)
 search_missed_keeps s c q on is = over_keeps s c q None on is (λ lt. found_none s.history s.begins s.found c lt on.last_found)
 
-pub search_found_keeps : (s : State) (c b : ℕ) (q : Search) (e : Entry) → Holds s → search_at s c ≡ Some q → begin_at s c ≡ Some b → MayHold s.history b e → Holds (search_over s c (Some e))
+pub search_found_keeps : (s : State) (c b : ℕ) (q : Search) (e : Entry) → Holds s → search_at s c ≡ Some q → begin_at s c ≡ Some b → MayHold s.history b e → Holds (Events.search_over s c (Some e))
 search_found_keeps s c b q e on is in_ may = over_keeps s c q (Some e) on is (λ lt. found_some s.history s.begins s.found c b e lt in_ may on.last_found)
 
-link_loaded_keeps : (s : State) (c n : ℕ) (q : Search) (x : ℕ) → Holds s → search_at s c ≡ Some q → LinkTells s q.start q.key n x → Keeps (link_loaded s c q x)
+link_loaded_keeps : (s : State) (c n : ℕ) (q : Search) (x : ℕ) → Holds s → search_at s c ≡ Some q → LinkTells s q.start q.key n x → Keeps (Events.link_loaded s c q x)
 link_loaded_keeps s c n q zero on is tells =
     let lt : c < s.settings.cpus = omega (arith, within_some s.searches c q is, on.shape.searches) in
-    search_missed_keeps (after_seeing s c) c q (see_keeps s c on lt) is
+    search_missed_keeps (Events.after_seeing s c) c q (see_keeps s c on lt) is
 link_loaded_keeps s c n q (suc t) on is tells =
     let lt : c < s.settings.cpus = omega (arith, within_some s.searches c q is, on.shape.searches) in
     let cw : c < length s.seen = omega (arith, on.shape.seen) in
-    going_on_keeps (after_seeing s c) c q (AtNumber t) (see_keeps s c on lt) is
+    going_on_keeps (Events.after_seeing s c) c q (AtNumber t) (see_keeps s c on lt) is
     (subst (λ (to : ℕ). PlaceHolds s.history q.start to q.key (AtNumber t)) (sym (get_or-set_same s.seen c (length s.history) 0 cw)) (tells.0, tells.1, tells.2))
 
 load_link_keeps : (s : State) (c : ℕ) (q : Search) (place : SearchPlace) → Holds s → search_at s c ≡ Some q
-    → PlaceHolds s.history q.start (seen_at s c) q.key place → Keeps (load_link s c q place)
+    → PlaceHolds s.history q.start (seen_at s c) q.key place → Keeps (Events.load_link s c q place)
 load_link_keeps s c q AtHead on is p =
     let walk : Walks s c q.start = search_walks s c q on is in
     link_loaded_keeps s c (suc (length s.history)) q s.head on is (link_tells s c q.start (suc (length s.history)) s.head q.key on walk (head_ahead s q.start q.key on walk.by_now))
@@ -91,16 +92,16 @@ load_link_keeps s c q (AtNext t) on is p =
     (next_ahead s c q.start (seen_at s c) t q.key p.0 on walk (on.searches c q is).started (on.sections.prefix c) p.1 p.2))
 load_link_keeps s c q _ on is p = tt
 
-pub link_keeps : (s : State) (c : ℕ) (q : Search) → Holds s → search_at s c ≡ Some q → Keeps (load_link s c q q.place)
+pub link_keeps : (s : State) (c : ℕ) (q : Search) → Holds s → search_at s c ≡ Some q → Keeps (Events.load_link s c q q.place)
 link_keeps s c q on is = load_link_keeps s c q q.place on is (on.searches c q is).stands
 
 compared_keeps : (s : State) (c : ℕ) (q : Search) (t n l : ℕ) (b : Bool) → Holds s → search_at s c ≡ Some q
     → (b ≡ true → PlaceHolds s.history q.start (seen_at s c) q.key (AtValue t n)) → (b ≡ false → PlaceHolds s.history q.start (seen_at s c) q.key (AtNext t))
-    → Keeps (outcome_of s c q (Some (loaded_of_name t n l b)))
+    → Keeps (Events.outcome_of s c q (Some (loaded_of_name t n l b)))
 compared_keeps s c q t n l b on is right wrong = grind (arith, going_on_keeps)
 
 load_searched_keeps : (s : State) (c : ℕ) (q : Search) (place : SearchPlace) → Holds s → search_at s c ≡ Some q
-    → PlaceHolds s.history q.start (seen_at s c) q.key place → Keeps (load_searched s c q place)
+    → PlaceHolds s.history q.start (seen_at s c) q.key place → Keeps (Events.load_searched s c q place)
 load_searched_keeps s c q (AtNumber t) on is p =
     going_on_keeps s c q (AtKind t (row_at s.rows t).number) on is (goes_on s c q.start (seen_at s c) q.key (AtNumber t) on (search_walks s c q on is) p)
 load_searched_keeps s c q (AtKind t n) on is p =
@@ -118,32 +119,32 @@ load_searched_keeps s c q (AtValue t n) on is p =
     search_found_keeps s c walk.begin q e on is walk.open_since (record { attached = stands.attached; unended = λ p x. omega (arith, stands.unended p x, walk.since) })
 load_searched_keeps s c q _ on is p = tt
 
-pub record_keeps : (s : State) (c : ℕ) (q : Search) → Holds s → search_at s c ≡ Some q → Keeps (load_searched s c q q.place)
+pub record_keeps : (s : State) (c : ℕ) (q : Search) → Holds s → search_at s c ≡ Some q → Keeps (Events.load_searched s c q q.place)
 record_keeps s c q on is = load_searched_keeps s c q q.place on is (on.searches c q is).stands
 
 -- The reply of a load that ends a search is lawful.
 pub step_answers : (c : ℕ) (q : Search) (n : ℕ) (o : Option Outcome) → Steps c q.start q n o → AnswersLookup c q o
 step_answers c q n o steps = grind arith
 
-pub link_answers : (s : State) (c : ℕ) (q : Search) → Holds s → search_at s c ≡ Some q → AnswersLookup c q (load_link s c q q.place)
-link_answers s c q on is = step_answers c q (weight s q.place) (load_link s c q q.place) (load_link_steps s c q.start q q.place on (search_walks s c q on is) (inr (on.searches c q is).started) is (on.searches c q is).stands)
+pub link_answers : (s : State) (c : ℕ) (q : Search) → Holds s → search_at s c ≡ Some q → AnswersLookup c q (Events.load_link s c q q.place)
+link_answers s c q on is = step_answers c q (weight s q.place) (Events.load_link s c q q.place) (load_link_steps s c q.start q q.place on (search_walks s c q on is) (inr (on.searches c q is).started) is (on.searches c q is).stands)
 
-pub record_answers : (s : State) (c : ℕ) (q : Search) → Holds s → search_at s c ≡ Some q → AnswersLookup c q (load_searched s c q q.place)
+pub record_answers : (s : State) (c : ℕ) (q : Search) → Holds s → search_at s c ≡ Some q → AnswersLookup c q (Events.load_searched s c q q.place)
 record_answers s c q on is =
-    step_answers c q (weight s q.place) (load_searched s c q q.place)
+    step_answers c q (weight s q.place) (Events.load_searched s c q q.place)
     (load_searched_steps s c q.start q q.place on (search_walks s c q on is) (on.searches c q is).started is (on.searches c q is).stands)
 
 -- What the loads of a search do to the state, by what they make of the words.
 
 -- a load keeps the invariant, by what it made of the word
-pub loaded_keeps : (s : State) (c : ℕ) (q : Search) (x : Option Loaded) → Holds s → search_at s c ≡ Some q → loaded_at q q.place (row_of_place s.rows q.place) ≡ x → Keeps (outcome_of s c q x)
-loaded_keeps s c q x on is load = subst (λ (y : Option Loaded). Keeps (outcome_of s c q y)) load (record_keeps s c q on is)
+pub loaded_keeps : (s : State) (c : ℕ) (q : Search) (x : Option Loaded) → Holds s → search_at s c ≡ Some q → loaded_at q q.place (row_of_place s.rows q.place) ≡ x → Keeps (Events.outcome_of s c q x)
+loaded_keeps s c q x on is load = subst (λ (y : Option Loaded). Keeps (Events.outcome_of s c q y)) load (record_keeps s c q on is)
 
-pub head_keeps : (s : State) (c : ℕ) (q : Search) → Holds s → search_at s c ≡ Some q → q.place ≡ AtHead → Keeps (link_loaded s c q s.head)
-head_keeps s c q on is at = subst (λ (p : SearchPlace). Keeps (load_link s c q p)) at (link_keeps s c q on is)
+pub head_keeps : (s : State) (c : ℕ) (q : Search) → Holds s → search_at s c ≡ Some q → q.place ≡ AtHead → Keeps (Events.link_loaded s c q s.head)
+head_keeps s c q on is at = subst (λ (p : SearchPlace). Keeps (Events.load_link s c q p)) at (link_keeps s c q on is)
 
-pub next_keeps : (s : State) (c t : ℕ) (q : Search) → Holds s → search_at s c ≡ Some q → q.place ≡ AtNext t → Keeps (link_loaded s c q (get_or s.next t 0))
-next_keeps s c t q on is at = subst (λ (p : SearchPlace). Keeps (load_link s c q p)) at (link_keeps s c q on is)
+pub next_keeps : (s : State) (c t : ℕ) (q : Search) → Holds s → search_at s c ≡ Some q → q.place ≡ AtNext t → Keeps (Events.link_loaded s c q (get_or s.next t 0))
+next_keeps s c t q on is at = subst (λ (p : SearchPlace). Keeps (Events.load_link s c q p)) at (link_keeps s c q on is)
 
 tells_bound : (s : State) (from n x : ℕ) (key : Key) → LinkTells s from key n x → x ≤ length s.slots
 tells_bound s from n x key tells = grind arith

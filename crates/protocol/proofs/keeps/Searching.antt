@@ -5,7 +5,9 @@ use Rattle.std.proofs.lemmas.List.{get_or_past}
 use Rattle.std.proofs.lemmas.Bool.{cases_lt, cases_eq, and_parts}
 use Rattle.protocol.specs.Types.{Entry, Change, Key}
 use Rattle.protocol.specs.History.{rank_at}
-use Rattle.protocol.specs.Common.{Reply, Done, Word, Found, Missed, Ref, Collected, RecordWords, Loaded, SearchPlace, AtHead, AtNext, AtNumber, AtKind, AtHigh, AtLow, AtValue, Search, EndsAt, MayHold, IsLookup, IsLawful, State, row_at, seen_at, search_at, begin_at, Outcome, after_seeing, with_search_at, with_some, link_at, link_loaded, load_link, load_searched, outcome_of, words_of, SlotWithin, entry_with, loaded_at, loaded_of_name, row_of_place, IsIn, SearchHolds, SearchesHold, FoundHold, StandsOn, AllBelow, PlaceHolds, Holds}
+use Rattle.protocol.specs.Common.{Reply, Done, Word, Found, Missed, Ref, Collected, RecordWords, Loaded, SearchPlace, AtHead, AtNext, AtNumber, AtKind, AtHigh, AtLow, AtValue, Search, EndsAt, MayHold, IsLookup, IsLawful, State, Outcome, SlotWithin, IsIn, SearchHolds, SearchesHold, FoundHold, StandsOn, AllBelow, PlaceHolds, Holds}
+use Rattle.protocol.specs.Common.{row_at, seen_at, search_at, begin_at, entry_with, loaded_at, loaded_of_name, row_of_place}
+use Rattle.protocol.specs.Events
 use Rattle.registry_values.specs.Common.{are_words_of, key_of, slot_at, kind_word}
 use Rattle.protocol.proofs.History.{ended_within, rank_key, rank_low, Ahead, No_more, One_more, step_ahead, all_below_later, found_lawful, missed_lawful, find_exact}
 use Rattle.protocol.proofs.Occupied.{in_within}
@@ -63,7 +65,7 @@ pub stands_within : (s : State) (c from to t : ℕ) (e : Entry) → Holds s → 
 stands_within s c from to t e on walk stands = in_within s.slots t e (stands_in s c from to t e on walk stands)
 
 -- the words of the entry of a walk
-pub words_stand : (s : State) (c from to t : ℕ) (e : Entry) → Holds s → Walks s c from → StandsOn s.history from to t e → row_at s.rows t ≡ words_of e
+pub words_stand : (s : State) (c from to t : ℕ) (e : Entry) → Holds s → Walks s c from → StandsOn s.history from to t e → row_at s.rows t ≡ Events.words_of e
 words_stand s c from to t e on walk stands = (on.rows t e (stands_in s c from to t e on walk stands)).0
 
 -- the slot that a walk reads is in range
@@ -147,7 +149,7 @@ Steps c from q n None = Unit {0}
 Steps c from q n (Some o) = IsStep o.state c from q n o.reply
 
 -- the pass of c is the whole history
-pub seen_now : (s : State) (c : ℕ) → Holds s → c < s.settings.cpus → seen_at (after_seeing s c) c ≡ length s.history
+pub seen_now : (s : State) (c : ℕ) → Holds s → c < s.settings.cpus → seen_at (Events.after_seeing s c) c ≡ length s.history
 seen_now s c on lt = get_or-set_same s.seen c (length s.history) 0 (omega (arith, on.shape.seen))
 
 -- a CPU that searches is in range
@@ -155,10 +157,10 @@ pub searching_within : (s : State) (c : ℕ) (q : Search) → Holds s → search
 searching_within s c q on is = omega (arith, within_some s.searches c q is, on.shape.searches)
 
 -- the search of c is q at another place now
-search_placed : (s : State) (c : ℕ) (q : Search) (place : SearchPlace) → search_at s c ≡ Some q → search_at (with_search_at s c q place) c ≡ Some (placed q place)
+search_placed : (s : State) (c : ℕ) (q : Search) (place : SearchPlace) → search_at s c ≡ Some q → search_at (Events.with_search_at s c q place) c ≡ Some (placed q place)
 search_placed s c q place is = get_or-set_same s.searches c (Some (placed q place)) None (within_some s.searches c q is)
 
-link_steps : (s : State) (c from : ℕ) (q : Search) (n x : ℕ) → Holds s → Walks s c from → search_at s c ≡ Some q → LinkTells s from q.key n x → Steps c from q (6 * n) (link_loaded s c q x)
+link_steps : (s : State) (c from : ℕ) (q : Search) (n x : ℕ) → Holds s → Walks s c from → search_at s c ≡ Some q → LinkTells s from q.key n x → Steps c from q (6 * n) (Events.link_loaded s c q x)
 link_steps s c from q n zero on walk is tells = grind (arith, seen_now, searching_within)
 link_steps s c from q n (suc t) on walk is tells =
     let number : (row_at s.rows t).number ≡ tells.0.number = ap (λ (r : RecordWords). r.number) (words_stand s c from (length s.history) t tells.0 on walk tells.1) in
@@ -171,9 +173,9 @@ link_steps s c from q n (suc t) on walk is tells =
 
 -- LoadLink: the walk holds at the new place, and a miss is lawful.
 pub load_link_steps : (s : State) (c from : ℕ) (q : Search) (place : SearchPlace) → Holds s → Walks s c from → (place ≡ AtHead) ⊎ (from ≤ seen_at s c) → search_at s c ≡ Some q
-    → PlaceHolds s.history from (seen_at s c) q.key place → Steps c from q (weight s place) (load_link s c q place)
+    → PlaceHolds s.history from (seen_at s c) q.key place → Steps c from q (weight s place) (Events.load_link s c q place)
 load_link_steps s c from q AtHead on walk seen is p =
-    subst (λ (n : ℕ). Steps c from q (6 * n) (link_loaded s c q s.head)) (next_number (length s.history))
+    subst (λ (n : ℕ). Steps c from q (6 * n) (Events.link_loaded s c q s.head)) (next_number (length s.history))
     (link_steps s c from q (suc (length s.history)) s.head on walk is (link_tells s c from (suc (length s.history)) s.head q.key on walk (head_ahead s from q.key on walk.by_now)))
   where
     next_number : (n : ℕ) → suc n ≡ n + 1
@@ -182,7 +184,7 @@ load_link_steps s c from q (AtNext t) on walk seen is p =
     let number : (row_at s.rows t).number ≡ p.0.number = ap (λ (r : RecordWords). r.number) (words_stand s c from (seen_at s c) t p.0 on walk p.1) in
     let rank : ℕ = rank_at s.history p.0.number in
     let low : from ≤ seen_at s c = either seen (λ head. absurd (let q : AtNext t ≡ AtHead = head in cc)) (λ lo. lo) in
-    subst (λ (n : ℕ). Steps c from q (6 * rank_at s.history n) (link_loaded s c q (get_or s.next t 0))) (sym number)
+    subst (λ (n : ℕ). Steps c from q (6 * rank_at s.history n) (Events.link_loaded s c q (get_or s.next t 0))) (sym number)
     (link_steps s c from q rank (get_or s.next t 0) on walk is
     (link_tells s c from rank (get_or s.next t 0) q.key on walk (next_ahead s c from (seen_at s c) t q.key p.0 on walk low (on.sections.prefix c) p.1 p.2)))
 load_link_steps s c from q _ on walk seen is p = tt
@@ -210,7 +212,7 @@ key_differs s from to t key e on stands below test f g lf lg rank same =
 pub found_is : (s : State) (c from to t n : ℕ) (q : Search) (e : Entry) → Holds s → Walks s c from → StandsOn s.history from to t e → n ≡ e.number → q.key ≡ key_of e
     → e ≡ entry_with q.key t n (row_at s.rows t).value
 found_is s c from to t n q e on walk stands number same =
-    let row : row_at s.rows t ≡ words_of e = words_stand s c from to t e on walk stands in
+    let row : row_at s.rows t ≡ Events.words_of e = words_stand s c from to t e on walk stands in
     λ i. record { number = sym number i; slot = stands.at i; rec = record { kind = (sym same i).kind; name = (sym same i).name; value = (sym row i).value } }
 
 -- the next place after a load of a record word
@@ -229,7 +231,7 @@ goes_on s c from to key (AtNumber t) on walk p = (p.0, p.1, p.2, ap (λ (r : Rec
 goes_on s c from to key (AtKind t n) on walk p = (p.0, p.1, p.2, p.3, ap (λ (r : RecordWords). r.kind) (words_stand s c from to t p.0 on walk p.1))
 goes_on s c from to key (AtHigh t n k) on walk p = (p.0, p.1, p.2, p.3, p.4, ap (λ (r : RecordWords). r.high) (words_stand s c from to t p.0 on walk p.1))
 goes_on s c from to key (AtLow t n k x) on walk p =
-    let row : row_at s.rows t ≡ words_of p.0 = words_stand s c from to t p.0 on walk p.1 in
+    let row : row_at s.rows t ≡ Events.words_of p.0 = words_stand s c from to t p.0 on walk p.1 in
     let test : are_words_of key (kind_word p.0.rec.kind) p.0.rec.name.high p.0.rec.name.low ≡ are_words_of key k x (row_at s.rows t).low =
     λ i. are_words_of key (sym p.4 i) (sym p.5 i) (sym row i).low in
     (λ right. (p.0, p.1, p.3, key_from_words key p.0 (test ∙ right)), λ wrong. (p.0, p.1, key_differs s from to t key p.0 on p.1 p.2 (test ∙ wrong)))
@@ -244,13 +246,13 @@ found_tells s c from to t n q on walk le p =
 
 compared_steps : (s : State) (c from : ℕ) (q : Search) (t n l left : ℕ) (b : Bool) → search_at s c ≡ Some q → left ≡ 6 * rank_at s.history (row_at s.rows t).number + 2
     → (b ≡ true → PlaceHolds s.history from (seen_at s c) q.key (AtValue t n)) → (b ≡ false → PlaceHolds s.history from (seen_at s c) q.key (AtNext t))
-    → Steps c from q left (outcome_of s c q (Some (loaded_of_name t n l b)))
+    → Steps c from q left (Events.outcome_of s c q (Some (loaded_of_name t n l b)))
 compared_steps s c from q t n l left true is weighs right wrong = (AtValue t n, search_placed s c q (AtValue t n) is, right refl, omega arith)
 compared_steps s c from q t n l left false is weighs right wrong = (AtNext t, search_placed s c q (AtNext t) is, wrong refl, omega arith)
 
 -- LoadRecord: the walk holds at the new place, and what is found is lawful.
 pub load_searched_steps : (s : State) (c from : ℕ) (q : Search) (place : SearchPlace) → Holds s → Walks s c from → from ≤ seen_at s c → search_at s c ≡ Some q
-    → PlaceHolds s.history from (seen_at s c) q.key place → Steps c from q (weight s place) (load_searched s c q place)
+    → PlaceHolds s.history from (seen_at s c) q.key place → Steps c from q (weight s place) (Events.load_searched s c q place)
 load_searched_steps s c from q (AtNumber t) on walk le is p =
     (AtKind t (row_at s.rows t).number, search_placed s c q (AtKind t (row_at s.rows t).number) is, goes_on s c from (seen_at s c) q.key (AtNumber t) on walk p, omega arith)
 load_searched_steps s c from q (AtKind t n) on walk le is p =
@@ -290,22 +292,22 @@ Sees s c (Some o) = (o.state.history ≡ s.history) × (seen_at o.state c ≡ le
 find_steps : (s : State) (c : ℕ) (q : Search) (n : ℕ) (o : Option Outcome) → Sees s c o → Steps c (length s.history) q n o → FindSteps c q n o
 find_steps s c q n o sees steps = grind (arith, find_exact)
 
-followed_sees : (s : State) (c : ℕ) (q : Search) (x : Option ℕ) → Holds s → search_at s c ≡ Some q → Sees s c (with_some x (link_loaded s c q))
+followed_sees : (s : State) (c : ℕ) (q : Search) (x : Option ℕ) → Holds s → search_at s c ≡ Some q → Sees s c (Events.with_some x (Events.link_loaded s c q))
 followed_sees s c q x on is = grind (arith, seen_now, searching_within)
 
-outcome_sees : (s : State) (c : ℕ) (q : Search) (o : Option Loaded) → seen_at s c ≡ length s.history → Sees s c (outcome_of s c q o)
+outcome_sees : (s : State) (c : ℕ) (q : Search) (o : Option Loaded) → seen_at s c ≡ length s.history → Sees s c (Events.outcome_of s c q o)
 outcome_sees s c q o all = grind arith
 
-record_sees : (s : State) (c : ℕ) (q : Search) (place : SearchPlace) → (place ≡ AtHead) ⊎ (seen_at s c ≡ length s.history) → Sees s c (load_searched s c q place)
-record_sees s c q place (inl head) = subst (λ (p : SearchPlace). Sees s c (load_searched s c q p)) (sym head) tt
+record_sees : (s : State) (c : ℕ) (q : Search) (place : SearchPlace) → (place ≡ AtHead) ⊎ (seen_at s c ≡ length s.history) → Sees s c (Events.load_searched s c q place)
+record_sees s c q place (inl head) = subst (λ (p : SearchPlace). Sees s c (Events.load_searched s c q p)) (sym head) tt
 record_sees s c q place (inr all) = outcome_sees s c q (loaded_at q place (row_of_place s.rows place)) all
 
-pub find_link : (s : State) (c : ℕ) (q : Search) → Holds s → Finds s c q → FindSteps c q (weight s q.place) (load_link s c q q.place)
-find_link s c q on finds = find_steps s c q (weight s q.place) (load_link s c q q.place) (followed_sees s c q (link_at s q.place) on finds.searching)
+pub find_link : (s : State) (c : ℕ) (q : Search) → Holds s → Finds s c q → FindSteps c q (weight s q.place) (Events.load_link s c q q.place)
+find_link s c q on finds = find_steps s c q (weight s q.place) (Events.load_link s c q q.place) (followed_sees s c q (Events.link_at s q.place) on finds.searching)
     (load_link_steps s c (length s.history) q q.place on (walks_now s c q on finds.searching) (either finds.seen (λ head. inl head) (λ all. inr (omega (arith, all)))) finds.searching finds.stands)
 
-pub find_record : (s : State) (c : ℕ) (q : Search) → Holds s → Finds s c q → FindSteps c q (weight s q.place) (load_searched s c q q.place)
+pub find_record : (s : State) (c : ℕ) (q : Search) → Holds s → Finds s c q → FindSteps c q (weight s q.place) (Events.load_searched s c q q.place)
 find_record s c q on finds = either finds.seen
-    (λ head. subst (λ (p : SearchPlace). FindSteps c q (weight s p) (load_searched s c q p)) (sym head) tt)
-    (λ all. find_steps s c q (weight s q.place) (load_searched s c q q.place) (record_sees s c q q.place finds.seen)
+    (λ head. subst (λ (p : SearchPlace). FindSteps c q (weight s p) (Events.load_searched s c q p)) (sym head) tt)
+    (λ all. find_steps s c q (weight s q.place) (Events.load_searched s c q q.place) (record_sees s c q q.place finds.seen)
     (load_searched_steps s c (length s.history) q q.place on (walks_now s c q on finds.searching) (omega arith) finds.searching finds.stands))

@@ -5,7 +5,9 @@ use Rattle.std.proofs.lemmas.Bool.{cases_lt, cases_eq, and_parts}
 use Rattle.protocol.specs.Types.{Entry, Change, Settings, Slot, Retired, Mark, Key, Live}
 use Rattle.protocol.specs.History.{rank_at}
 use Rattle.registry_values.specs.Common.{slot_at}
-use Rattle.protocol.specs.Common.{SearchPlace, AtHead, AtNext, AtNumber, AtKind, AtHigh, AtLow, AtValue, IsLegal, Search, Hand, Empty, mark_at, EndsAt, MayHold, SlotsShow, HeldStay, Leads, LinksStay, MarksHold, SectionsShow, SeatsShow, StandsOn, PlaceHolds, SearchHolds, SearchesHold, FoundHold, IsSeenInHand, TriesSeen, State, section_at, begin_at, depth_at, search_at, hand_at, is_empty, is_idle, is_outside, is_inside, may_recall, may_recall_head, may_refind, may_seat, after_seat, may_enter, after_enter, may_exit, after_exit, after_refind, after_seeing, is_honest, live_at, Holds}
+use Rattle.protocol.specs.Common.{SearchPlace, AtHead, AtNext, AtNumber, AtKind, AtHigh, AtLow, AtValue, IsLegal, Search, Hand, Empty, EndsAt, MayHold, SlotsShow, HeldStay, Leads, LinksStay, MarksHold, SectionsShow, SeatsShow, StandsOn, PlaceHolds, SearchHolds, SearchesHold, FoundHold, IsSeenInHand, TriesSeen, State, Holds}
+use Rattle.protocol.specs.Common.{mark_at, section_at, begin_at, depth_at, search_at, hand_at, is_empty, live_at}
+use Rattle.protocol.specs.Events
 use Rattle.protocol.proofs.Cells.{place_in, place_put}
 use Rattle.protocol.proofs.History.{attached_within, ended_within, all_below_later}
 use Rattle.protocol.proofs.Either.{either}
@@ -149,23 +151,23 @@ pub some_from : {X : Type 0} (o : Option X) → is_some o ≡ true → (x : X) �
 some_from o is = grind arith
 
 -- an idle CPU is seated and has no search
-pub idle_parts : (s : State) (c : ℕ) → is_idle s c ≡ true → (c < s.seated) × (search_at s c ≡ None) × (is_empty (hand_at s c) ≡ true)
+pub idle_parts : (s : State) (c : ℕ) → Events.is_idle s c ≡ true → (c < s.seated) × (search_at s c ≡ None) × (is_empty (hand_at s c) ≡ true)
 idle_parts s c ok = grind (arith, and_parts, ltb-true, none_from)
 
 pub empty_from : (h : Hand) → is_empty h ≡ true → h ≡ Empty
 empty_from h is = grind arith
 
 -- and in range with nothing in its hand
-pub idle_tells : (s : State) (c : ℕ) → Holds s → is_idle s c ≡ true → (c < s.settings.cpus) × (hand_at s c ≡ Empty)
+pub idle_tells : (s : State) (c : ℕ) → Holds s → Events.is_idle s c ≡ true → (c < s.settings.cpus) × (hand_at s c ≡ Empty)
 idle_tells s c on idle = let p = idle_parts s c idle in (omega (arith, p.0, on.seats.within), empty_from (hand_at s c) p.2)
 
-pub seat_keeps : (s : State) (c : ℕ) → Holds s → may_seat s c ≡ true → Holds (after_seat s c)
+pub seat_keeps : (s : State) (c : ℕ) → Holds s → Events.may_seat s c ≡ true → Holds (Events.after_seat s c)
 seat_keeps s c on ok = grind (arith, and_parts, eqb-true, ltb-true, seats_seat)
 
-pub enter_keeps : (s : State) (c : ℕ) → Holds s → may_enter s c ≡ true → Holds (after_enter s c)
+pub enter_keeps : (s : State) (c : ℕ) → Holds s → Events.may_enter s c ≡ true → Holds (Events.after_enter s c)
 enter_keeps s c on ok =
-    let p = and_parts (is_idle s c) (is_outside s c && nat_lt (section_at s c) (2 * s.settings.section_limit)) ok in
-    let p1 = and_parts (is_outside s c) (nat_lt (section_at s c) (2 * s.settings.section_limit)) p.1 in
+    let p = and_parts (Events.is_idle s c) (Events.is_outside s c && nat_lt (section_at s c) (2 * s.settings.section_limit)) ok in
+    let p1 = and_parts (Events.is_outside s c) (nat_lt (section_at s c) (2 * s.settings.section_limit)) p.1 in
     let idle = idle_parts s c p.0 in
     let out : begin_at s c ≡ None = none_from (begin_at s c) p1.0 in
     let lt : c < s.settings.cpus = omega (arith, idle.0, on.seats.within) in
@@ -186,10 +188,10 @@ enter_keeps s c on ok =
       found_enter s.history s.begins s.found c (Some (length s.history)) out on.last_found,
     )
 
-pub exit_keeps : (s : State) (c : ℕ) → Holds s → may_exit s c ≡ true → Holds (after_exit s c)
+pub exit_keeps : (s : State) (c : ℕ) → Holds s → Events.may_exit s c ≡ true → Holds (Events.after_exit s c)
 exit_keeps s c on ok =
-    let p = and_parts (is_idle s c) (is_inside s c && nat_eq (depth_at s c) 1) ok in
-    let p1 = and_parts (is_inside s c) (nat_eq (depth_at s c) 1) p.1 in
+    let p = and_parts (Events.is_idle s c) (Events.is_inside s c && nat_eq (depth_at s c) 1) ok in
+    let p1 = and_parts (Events.is_inside s c) (nat_eq (depth_at s c) 1) p.1 in
     let idle = idle_parts s c p.0 in
     let in_ : (b : ℕ) × (begin_at s c ≡ Some b) = some_from (begin_at s c) p1.0 in
     let lt : c < s.settings.cpus = omega (arith, idle.0, on.seats.within) in
@@ -211,7 +213,7 @@ exit_keeps s c on ok =
     )
 
 -- the pass of a CPU grows to the whole history
-pub see_keeps : (s : State) (c : ℕ) → Holds s → c < s.settings.cpus → Holds (after_seeing s c)
+pub see_keeps : (s : State) (c : ℕ) → Holds s → c < s.settings.cpus → Holds (Events.after_seeing s c)
 see_keeps s c on lt =
     let cw : c < length s.seen = omega (arith, on.shape.seen) in
     assumption (
@@ -222,30 +224,30 @@ see_keeps s c on lt =
     )
 
 -- the CPU is seated and has no search, the slot is in range, and its live word is honest
-pub recall_tells : (s : State) (c t : ℕ) → may_recall s c t ≡ true → (c < s.seated) × (search_at s c ≡ None) × (t < s.settings.slots) × (is_honest (live_at s.lives t) (slot_at s.slots t) ≡ true)
+pub recall_tells : (s : State) (c t : ℕ) → Events.may_recall s c t ≡ true → (c < s.seated) × (search_at s c ≡ None) × (t < s.settings.slots) × (Events.is_honest (live_at s.lives t) (slot_at s.slots t) ≡ true)
 recall_tells s c t ok = grind (arith, and_parts, ltb-true, none_from)
 
-pub recall_keeps : (s : State) (c t : ℕ) → Holds s → may_recall s c t ≡ true → Holds (after_seeing s c)
+pub recall_keeps : (s : State) (c t : ℕ) → Holds s → Events.may_recall s c t ≡ true → Holds (Events.after_seeing s c)
 recall_keeps s c t on ok = let seated = (recall_tells s c t ok).0 in see_keeps s c on (omega (arith, seated, on.seats.within))
 
 -- and so of a recall of the head
-pub recall_head_tells : (s : State) (c : ℕ) → may_recall_head s c ≡ true → (c < s.seated) × (search_at s c ≡ None)
+pub recall_head_tells : (s : State) (c : ℕ) → Events.may_recall_head s c ≡ true → (c < s.seated) × (search_at s c ≡ None)
 recall_head_tells s c ok = let p = and_parts (nat_lt c s.seated) (is_none (search_at s c)) ok in (ltb-true c s.seated p.0, none_from (search_at s c) p.1)
 
-pub recall_head_keeps : (s : State) (c : ℕ) → Holds s → may_recall_head s c ≡ true → Holds (after_seeing s c)
+pub recall_head_keeps : (s : State) (c : ℕ) → Holds s → Events.may_recall_head s c ≡ true → Holds (Events.after_seeing s c)
 recall_head_keeps s c on ok = let seated = (recall_head_tells s c ok).0 in see_keeps s c on (omega (arith, seated, on.seats.within))
 
 -- the CPU is inside too, and the slot's live entry has the number
-pub refind_tells : (s : State) (c t n : ℕ) (e : Entry) → may_refind s c t n e ≡ true
+pub refind_tells : (s : State) (c t n : ℕ) (e : Entry) → Events.may_refind s c t n e ≡ true
     → (c < s.seated) × (search_at s c ≡ None) × ((b : ℕ) × (begin_at s c ≡ Some b)) × (e.number ≡ n) × (live_at s.lives t ≡ n)
 refind_tells s c t n e ok = grind (arith, and_parts, ltb-true, none_from, some_from, eqb-true)
 
 -- a live entry hasn't ended, so the open section may hold it
-pub refind_keeps : (s : State) (c t n : ℕ) (e : Entry) → Holds s → slot_at s.slots t ≡ Live e → may_refind s c t n e ≡ true → Holds (after_refind s c e)
+pub refind_keeps : (s : State) (c t n : ℕ) (e : Entry) → Holds s → slot_at s.slots t ≡ Live e → Events.may_refind s c t n e ≡ true → Holds (Events.after_refind s c e)
 refind_keeps s c t n e on at ok =
     let told = refind_tells s c t n e ok in
     let lt : c < s.settings.cpus = omega (arith, told.0, on.seats.within) in
-    let seen : Holds (after_seeing s c) = see_keeps s c on lt in
+    let seen : Holds (Events.after_seeing s c) = see_keeps s c on lt in
     let live = (on.slots.live t e at).0 in
     let begun : told.2.0 ≤ length s.history = omega (arith, on.sections.begun c told.2.0 told.2.1, on.sections.prefix c) in
     let may : MayHold s.history told.2.0 e = record { attached = live.attached; unended = λ p x. omega (arith, live.unended p x, begun) } in
@@ -255,5 +257,5 @@ refind_keeps s c t n e on at ok =
       found_some s.history s.begins s.found c told.2.0 e (omega (arith, lt, seen.shape.found)) told.2.1 may seen.last_found,
     )
 
-pub hear_keeps : (s : State) (c : ℕ) → Holds s → is_idle s c ≡ true → Holds (after_seeing s c)
+pub hear_keeps : (s : State) (c : ℕ) → Holds s → Events.is_idle s c ≡ true → Holds (Events.after_seeing s c)
 hear_keeps s c on ok = see_keeps s c on (idle_tells s c on ok).0

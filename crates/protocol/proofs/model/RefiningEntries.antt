@@ -3,7 +3,8 @@ use Rattle.std.proofs.Common.{◌≡◌, ℕ, ◌+◌, ◌-◌, ◌<◌, ◌⊎�
 use Rattle.std.proofs.lemmas.Bool.{and_parts, cases_eq, cases_lt}
 use Rattle.std.proofs.lemmas.Option.{none-some, same_Some}
 use Rattle.protocol.specs.Types.{Entry, Change, Attach, Detach, Slot, Vacant, Live, Retired}
-use Rattle.protocol.specs.Common.{Free, Standing, Due, Rest, after_change, IsLegal, EndsAt, State, row_at, passive_at, kept_at, local_at, may_write, entry_of, may_publish, after_publish, with_retired, is_driver_slot, may_keep, after_keep, is_drained, after_kept_sub, may_vacate, after_vacate, Holds, IsIn, SlotsShow, held_at, standing_of, in_hand, put, IsUnheld, IsDriverHere, IsModelRun, number_in, passive_in, Hand, trying_at, subtractions_due, locals_of, picture, TakesNone}
+use Rattle.protocol.specs.Common.{Free, Standing, Due, Rest, after_change, IsLegal, EndsAt, State, row_at, passive_at, kept_at, local_at, Holds, IsIn, SlotsShow, held_at, standing_of, in_hand, put, IsUnheld, IsDriverHere, IsModelRun, number_in, passive_in, Hand, trying_at, subtractions_due, locals_of, picture, TakesNone}
+use Rattle.protocol.specs.Events
 use Rattle.registry_values.specs.Common.{slot_at, slot_of}
 use Rattle.protocol.specs.Model
 use Rattle.protocol.specs.History.{rank_at}
@@ -58,11 +59,11 @@ waiting_rest slots n due is = ap (subtractions_due slots n) is
 
 -- Publish and Unpublish
 
-publish_own : (s : State) (e : Entry) → Holds s → Holds (after_publish s e.slot e) → may_publish s e.slot e ≡ true → IsModelRun TakesNone (picture s) (picture (after_publish s e.slot e))
+publish_own : (s : State) (e : Entry) → Holds s → Holds (Events.after_publish s e.slot e) → Events.may_publish s e.slot e ≡ true → IsModelRun TakesNone (picture s) (picture (Events.after_publish s e.slot e))
 publish_own s e on now ok =
     let told = may_publish_tells s e.slot e on.shape ok in
     let unheld : (c : ℕ) → passive_at s.passive c e.slot - trying_at s.hands c e.slot ≡ 0 = λ c. omega (arith, on.passive.vacant c e.slot told.vacant) in
-    one_step (picture s) _ (picture (after_publish s e.slot e)) (Model.Attaches e (ap number_in told.vacant) now.legal told.number told.rightly) (assumption (
+    one_step (picture s) _ (picture (Events.after_publish s e.slot e)) (Model.Attaches e (ap number_in told.vacant) now.legal told.number told.rightly) (assumption (
       λ (c : ℕ) (n : ℕ). passive_moved s.history (after_change s.history (Attach e)) s.slots (set s.slots e.slot (Live e)) s.passive s.hands c n on.slots now.slots
           (λ u at. inl (at.0, in_other s.slots e.slot (Live e) at.0 u (λ same. not_vacant at.0 (slot_at s.slots u) (ap (slot_at s.slots) same ∙ told.vacant) at.1) at.1, at.2))
           (λ u at. either (in_published s.slots e.slot u e at.0 told.within at.1)
@@ -73,17 +74,17 @@ publish_own s e on now ok =
       written number_in Vacant s.slots e.slot (Live e) told.within,
     ))
 
-pub publish_refines : (s : State) (t : ℕ) (e : Entry) → Holds s → Holds (after_publish s t e) → entry_of t (row_at s.rows t) ≡ Some e → may_publish s t e ≡ true
-    → IsModelRun TakesNone (picture s) (picture (after_publish s t e))
+pub publish_refines : (s : State) (t : ℕ) (e : Entry) → Holds s → Holds (Events.after_publish s t e) → Events.entry_of t (row_at s.rows t) ≡ Some e → Events.may_publish s t e ≡ true
+    → IsModelRun TakesNone (picture s) (picture (Events.after_publish s t e))
 publish_refines s t e on now is ok =
-    subst (λ (u : ℕ). Holds (after_publish s u e) → may_publish s u e ≡ true → IsModelRun TakesNone (picture s) (picture (after_publish s u e)))
+    subst (λ (u : ℕ). Holds (Events.after_publish s u e) → Events.may_publish s u e ≡ true → IsModelRun TakesNone (picture s) (picture (Events.after_publish s u e)))
     (entry_shows t (row_at s.rows t) e is).0 (λ later may. publish_own s e on later may) now ok
 
 pub retiring_refines : (s : State) (t : ℕ) (e : Entry) → Holds s → s.due ≡ Rest → slot_at s.slots t ≡ Live e → IsLegal (after_change s.history (Detach e.number))
     → SlotsShow (after_change s.history (Detach e.number)) (set s.slots t (Retired e))
-    → IsModelRun TakesNone (picture s) (picture (with_retired s t e))
+    → IsModelRun TakesNone (picture s) (picture (Events.with_retired s t e))
 retiring_refines s t e on rest at legal later =
-    one_step (picture s) _ (picture (with_retired s t e)) (Model.Detaches e.number legal) (assumption (
+    one_step (picture s) _ (picture (Events.with_retired s t e)) (Model.Detaches e.number legal) (assumption (
       λ (c : ℕ) (n : ℕ). passive_moved s.history (after_change s.history (Detach e.number)) s.slots (set s.slots t (Retired e)) s.passive s.hands c n on.slots later
           (λ u was. either (cases_eq u t)
           (λ same.
@@ -127,7 +128,7 @@ swap_refines s f e on is =
         (subst (λ (k : ℕ). IsIn f (slot_at (set slots f.slot (Retired f)) k)) (sym same) (in_written slots f.slot (Retired f) f (in_within slots f.slot f (inl at)) (inr refl))))
         (λ off. in_other slots f.slot (Retired f) g u off there)
 
-pub republish_refines : (s : State) (t u : ℕ) (e f : Entry) → Holds s → entry_of t (row_at s.rows t) ≡ Some e → slot_at s.slots u ≡ Live f → may_republish s t u e f ≡ true
+pub republish_refines : (s : State) (t u : ℕ) (e f : Entry) → Holds s → Events.entry_of t (row_at s.rows t) ≡ Some e → slot_at s.slots u ≡ Live f → may_republish s t u e f ≡ true
     → IsModelRun TakesNone (picture s) (picture (with_replaced s t u e f))
 republish_refines s t u e f on of at may =
     let told = may_republish_tells s t u e f on of at may in
@@ -139,11 +140,11 @@ republish_refines s t u e f on of at may =
 pub number_of : (x : Slot) (e : Entry) → IsIn e x → number_in x ≡ Some e.number
 number_of x e is = either is (λ live. ap number_in live) (λ gone. ap number_in gone)
 
-pub keep_refines : (s : State) (t id n u : ℕ) → Holds s → local_at s.locals id ≡ Standing n → slot_of s.slots n ≡ Some u → may_keep s t u ≡ true
-    → IsModelRun TakesNone (picture s) (picture (after_keep s t id n))
+pub keep_refines : (s : State) (t id n u : ℕ) → Holds s → local_at s.locals id ≡ Standing n → slot_of s.slots n ≡ Some u → Events.may_keep s t u ≡ true
+    → IsModelRun TakesNone (picture s) (picture (Events.after_keep s t id n))
 keep_refines s t id n u on at of ok =
-    let p = and_parts (may_write s t) _ ok in
-    let p1 = and_parts _ (is_driver_slot (slot_at s.slots u)) p.1 in
+    let p = and_parts (Events.may_write s t) _ ok in
+    let p1 = and_parts _ (Events.is_driver_slot (slot_at s.slots u)) p.1 in
     let told = may_write_tells s t on.shape p.0 in
     let has : HasDriver s.slots n = slot_has_driver s.slots n u of p1.1 in
     let lt : id < length s.locals = standing_within s.locals id n at in
@@ -156,10 +157,10 @@ keep_refines s t id n u on at of ok =
       slot = has.0;
       occupant = number_of (slot_at s.slots has.0) has.1 has.2 ∙ ap (λ (k : ℕ). Some k) has.3;
     } in
-    one_step (picture s) _ (picture (after_keep s t id n))
+    one_step (picture s) _ (picture (Events.after_keep s t id n))
     (Model.Keeps t n (ap number_in told.2) (none_from (kept_at s.keeps t) p1.0) here (omega (arith, standing_counts n s.locals id at)))
     (assumption (
-      put_is (λ i. locals_of s i) (λ i. locals_of (after_keep s t id n) i) n (locals_of s n - 1)
+      put_is (λ i. locals_of s i) (λ i. locals_of (Events.after_keep s t id n) i) n (locals_of s n - 1)
           (omega (arith, changed n, one_at n n refl))
           (λ i off. omega (arith, changed i, none_at n i (λ same. off (sym same)))),
       written (λ (x : Option ℕ). x) None s.keeps t (Some n) (omega (arith, told.1, on.shape.slots, on.shape.keeps)),
@@ -178,7 +179,7 @@ pub record Drained (s : State) (t n : ℕ) : Type 0 where
   pub passive : (c : ℕ) → passive_at s.passive c t - trying_at s.hands c t ≡ 0
   pub unheld : IsUnheld (picture s) n
 
-pub drained : (s : State) (t n : ℕ) → Holds s → is_drained s t ≡ true → number_in (slot_at s.slots t) ≡ Some n → Drained s t n
+pub drained : (s : State) (t n : ℕ) → Holds s → Events.is_drained s t ≡ true → number_in (slot_at s.slots t) ≡ Some n → Drained s t n
 drained s t n on ok is =
     let told = is_drained_tells s t on ok in
     let e : Entry = told.1.0 in
@@ -209,11 +210,11 @@ drained s t n on ok is =
       };
     }
 
-pub unheld_when_drained : (s : State) (t n : ℕ) → Holds s → is_drained s t ≡ true → number_in (slot_at s.slots t) ≡ Some n → IsUnheld (picture s) n
+pub unheld_when_drained : (s : State) (t n : ℕ) → Holds s → Events.is_drained s t ≡ true → number_in (slot_at s.slots t) ≡ Some n → IsUnheld (picture s) n
 unheld_when_drained s t n on ok is = (drained s t n on ok is).unheld
 
 -- the occupant of a drained slot
-occupant_of : (s : State) (t : ℕ) → Holds s → is_drained s t ≡ true → (n : ℕ) × (number_in (slot_at s.slots t) ≡ Some n)
+occupant_of : (s : State) (t : ℕ) → Holds s → Events.is_drained s t ≡ true → (n : ℕ) × (number_in (slot_at s.slots t) ≡ Some n)
 occupant_of s t on ok = let told = is_drained_tells s t on ok in (told.1.0.number, ap number_in told.1.1)
 
 -- the slot of a drained entry becomes vacant
@@ -228,25 +229,25 @@ vacated_passive s t n on d later c i = passive_moved s.history s.history s.slots
 vacated_locals : (s : State) (t n : ℕ) → Drained s t n → (i : ℕ) → locals_of s i ≡ locals_of (record s { slots = set s.slots t Vacant }) i
 vacated_locals s t n d i = grind (arith, waiting_rest)
 
-pub vacate_refines : (s : State) (t : ℕ) → Holds s → Holds (after_vacate s t) → may_vacate s t ≡ true → IsModelRun TakesNone (picture s) (picture (after_vacate s t))
+pub vacate_refines : (s : State) (t : ℕ) → Holds s → Holds (Events.after_vacate s t) → Events.may_vacate s t ≡ true → IsModelRun TakesNone (picture s) (picture (Events.after_vacate s t))
 vacate_refines s t on now ok =
-    let p = and_parts _ (is_drained s t) ok in
+    let p = and_parts _ (Events.is_drained s t) ok in
     let n = occupant_of s t on p.1 in
     let d : Drained s t n.0 = drained s t n.0 on p.1 n.1 in
-    one_step (picture s) _ (picture (after_vacate s t)) (Model.Vacates t n.0 d.position n.1 d.ended d.unheld (none_from (kept_at s.keeps t) p.0)) (assumption (
+    one_step (picture s) _ (picture (Events.after_vacate s t)) (Model.Vacates t n.0 d.position n.1 d.ended d.unheld (none_from (kept_at s.keeps t) p.0)) (assumption (
       vacated_passive s t n.0 on d now.slots,
       vacated_locals s t n.0 d,
       written number_in Vacant s.slots t Vacant (in_within s.slots t d.entry (inr d.gone)),
     ))
 
-pub kept_sub_refines : (s : State) (t u k : ℕ) → Holds s → Holds (after_kept_sub s t u) → kept_at s.keeps t ≡ Some k → is_drained s t ≡ true → IsModelRun TakesNone (picture s) (picture (after_kept_sub s t u))
+pub kept_sub_refines : (s : State) (t u k : ℕ) → Holds s → Holds (Events.after_kept_sub s t u) → kept_at s.keeps t ≡ Some k → Events.is_drained s t ≡ true → IsModelRun TakesNone (picture s) (picture (Events.after_kept_sub s t u))
 kept_sub_refines s t u k on now kept ok =
     let n = occupant_of s t on ok in
     let d : Drained s t n.0 = drained s t n.0 on ok n.1 in
     let some : (put (λ i. locals_of s i) k (locals_of s k + 1)) k ≡ locals_of s k + 1 = put_here (λ i. locals_of s i) k (locals_of s k + 1) in
-    two_steps (picture s) _ _ (picture (after_kept_sub s t u)) (Model.Gives_up t n.0 d.position k n.1 d.ended d.unheld kept) (Model.Uncounts k (omega (arith, some))) (assumption (
+    two_steps (picture s) _ _ (picture (Events.after_kept_sub s t u)) (Model.Gives_up t n.0 d.position k n.1 d.ended d.unheld kept) (Model.Uncounts k (omega (arith, some))) (assumption (
       vacated_passive s t n.0 on d now.slots,
-      put_is (put (λ i. locals_of s i) k (locals_of s k + 1)) (λ i. locals_of (after_kept_sub s t u) i) k (put (λ i. locals_of s i) k (locals_of s k + 1) k - 1)
+      put_is (put (λ i. locals_of s i) k (locals_of s k + 1)) (λ i. locals_of (Events.after_kept_sub s t u) i) k (put (λ i. locals_of s i) k (locals_of s k + 1) k - 1)
           (omega (arith, some, vacated_locals s t n.0 d k))
           (λ i off. put_other (λ j. locals_of s j) k (locals_of s k + 1) i off ∙ vacated_locals s t n.0 d i),
       written number_in Vacant s.slots t Vacant (in_within s.slots t d.entry (inr d.gone)),

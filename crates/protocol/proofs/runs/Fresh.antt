@@ -4,7 +4,11 @@ use Rattle.std.proofs.lemmas.Bool.{and_parts, cases_eq}
 use Rattle.std.proofs.lemmas.List.{append-nil}
 use Rattle.std.proofs.lemmas.Option.{none-some, same_Some}
 use Rattle.protocol.specs.Types.{Entry, Change, Attach, Detach, Replace, Key, Slot, Live}
-use Rattle.protocol.specs.Common.{Leads, IsNewestAt, RecallsNewest, NewestRecalls, Refind, after_refind, found_at, may_recall_head, may_refind, refind, Event, Reply, Done, Word, Search, SearchPlace, AtHead, AtNumber, EndsAt, IsLiveAt, IsLawful, IsLegal, IsLookup, State, opening, seen_at, search_at, begin_at, Outcome, step, state_after, guard, is_idle, is_inside, may_seek, may_recall, may_confirm, confirm, is_honest, has_live, live_at, hand_at, Hand, Trying, IsAttached, after_confirm, after_seek, after_seeing, after_change, with_some, load_link, load_searched, some_outcome, Holds, PlaceHolds, after, after_event, IsAllowed, IsLoadOf, answer_of, seek_for, IsNoSeek, SeeksNone, AnswersFreshly, SeesAll, RecallsLive, FreshAnswers, WholePasses, LiveRecalls}
+use Rattle.protocol.specs.Common.{Leads, IsNewestAt, RecallsNewest, NewestRecalls, Refind, Event, Reply, Done, Word, Search, SearchPlace, AtHead, AtNumber, EndsAt, IsLiveAt, IsLawful, IsLegal, IsLookup, State, Outcome, Hand, Trying, IsAttached, Holds, PlaceHolds, IsAllowed, IsLoadOf, IsNoSeek, SeeksNone, AnswersFreshly, SeesAll, RecallsLive, FreshAnswers, WholePasses, LiveRecalls}
+use Rattle.protocol.specs.Common.{found_at, opening, seen_at, search_at, begin_at, live_at, hand_at}
+use Rattle.protocol.specs.Events
+use Rattle.protocol.specs.Laws
+use Rattle.protocol.specs.History
 use Rattle.protocol.specs.History.{rank_at}
 use Rattle.registry_values.specs.Common.{key_of, slot_at}
 use Rattle.protocol.specs.Common.{To_end, To_entry}
@@ -46,7 +50,7 @@ going_same : (s n : State) (c from : ℕ) (key : Key) → n.history ≡ s.histor
 going_same s n c from key history begin seen search going q is = goes_same s n c from key q history begin seen (going q (sym search ∙ is))
 
 -- one change more
-going_changed : (s n : State) (x : Change) (c from : ℕ) (key : Key) → n.history ≡ after_change s.history x → begin_at n c ≡ begin_at s c → seen_at n c ≡ seen_at s c → search_at n c ≡ search_at s c
+going_changed : (s n : State) (x : Change) (c from : ℕ) (key : Key) → n.history ≡ History.after_change s.history x → begin_at n c ≡ begin_at s c → seen_at n c ≡ seen_at s c → search_at n c ≡ search_at s c
     → seen_at s c ≤ length s.history → Going s c from key → Going n c from key
 going_changed s n x c from key history begin seen search low going q is =
     let was : Goes s c from key q = going q (sym search ∙ is) in
@@ -54,7 +58,7 @@ going_changed s n x c from key history begin seen search low going q is =
     record {
       sought = was.sought;
       walk = record { begin = was.walk.begin; open_since = begin ∙ was.walk.open_since; since = was.walk.since; by_now = omega (arith, was.walk.by_now, size) };
-      stands = place_with (after_change s.history x) n.history from (seen_at s c) (seen_at n c) q.key q.place (sym history) (sym seen)
+      stands = place_with (History.after_change s.history x) n.history from (seen_at s c) (seen_at n c) q.key q.place (sym history) (sym seen)
           (place_old s.history x from (seen_at s c) q.key q.place was.walk.by_now low was.stands);
       seen = either was.seen (λ head. inl head) (λ lo. inr (omega (arith, lo, seen)));
     }
@@ -74,18 +78,18 @@ placed_goes s n c from left key q place w was history begin le steps r is = grin
 
 -- what a load of the search leaves is a step of the walk
 
-link_steps : (s : State) (c from : ℕ) (key : Key) (q : Search) → Holds s → search_at s c ≡ Some q → Goes s c from key q → Steps c from q (weight s q.place) (load_link s c q q.place)
+link_steps : (s : State) (c from : ℕ) (key : Key) (q : Search) → Holds s → search_at s c ≡ Some q → Goes s c from key q → Steps c from q (weight s q.place) (Events.load_link s c q q.place)
 link_steps s c from key q on is was = load_link_steps s c from q q.place on was.walk was.seen is was.stands
 
-record_steps : (s : State) (c from : ℕ) (key : Key) (q : Search) → Holds s → search_at s c ≡ Some q → Goes s c from key q → Steps c from q (weight s q.place) (load_searched s c q q.place)
+record_steps : (s : State) (c from : ℕ) (key : Key) (q : Search) → Holds s → search_at s c ≡ Some q → Goes s c from key q → Steps c from q (weight s q.place) (Events.load_searched s c q q.place)
 record_steps s c from key q on is was = either was.seen
-    (λ head. subst (Steps c from q (weight s q.place)) (ap (load_searched s c q) (sym head)) tt)
+    (λ head. subst (Steps c from q (weight s q.place)) (ap (Events.load_searched s c q) (sym head)) tt)
     (λ le. load_searched_steps s c from q q.place on was.walk le is was.stands)
 
-own_steps : (s : State) (c from : ℕ) (key : Key) (q : Search) (e : Event) → Holds s → search_at s c ≡ Some q → Goes s c from key q → IsLoadOf c e → Steps c from q (weight s q.place) (step s e)
+own_steps : (s : State) (c from : ℕ) (key : Key) (q : Search) (e : Event) → Holds s → search_at s c ≡ Some q → Goes s c from key q → IsLoadOf c e → Steps c from q (weight s q.place) (Events.step s e)
 own_steps s c from key q e on is was of = either of
-    (λ link. subst (Steps c from q (weight s q.place)) (ap (λ (o : Option Search). with_some o (λ (r : Search). load_link s c r r.place)) (sym is) ∙ ap (step s) (sym link)) (link_steps s c from key q on is was))
-    (λ rec. subst (Steps c from q (weight s q.place)) (ap (λ (o : Option Search). with_some o (λ (r : Search). load_searched s c r r.place)) (sym is) ∙ ap (step s) (sym rec)) (record_steps s c from key q on is was))
+    (λ link. subst (Steps c from q (weight s q.place)) (ap (λ (o : Option Search). Events.with_some o (λ (r : Search). Events.load_link s c r r.place)) (sym is) ∙ ap (Events.step s) (sym link)) (link_steps s c from key q on is was))
+    (λ rec. subst (Steps c from q (weight s q.place)) (ap (λ (o : Option Search). Events.with_some o (λ (r : Search). Events.load_searched s c r r.place)) (sym is) ∙ ap (Events.step s) (sym rec)) (record_steps s c from key q on is was))
 
 -- Every event
 
@@ -109,7 +113,7 @@ made_going s n c from key _ _ on off_seek going (LoadsSlot j t q at is) = by_pla
     going
 made_going s n c from key _ _ on off_seek going (LoadsWord j w q p at is) = by_place (λ k. Going s k from key → Going n k from key) j c
     (λ was. either (was q at).seen
-    (λ head. absurd (none-some _ (ap (load_searched s j q) (sym head) ∙ is)))
+    (λ head. absurd (none-some _ (ap (Events.load_searched s j q) (sym head) ∙ is)))
     (λ le. placed_goes s n j from (weight s q.place) key q p w (was q at) refl refl le (subst (Steps j from q (weight s q.place)) is (record_steps s j from key q on at (was q at)))))
     (λ off was. going_same s n c from key refl refl refl (get_or-set_other s.searches j c _ None off) was)
     going
@@ -133,39 +137,39 @@ record Since (h : List Change) (s : State) (c : ℕ) (key : Key) : Type 0 where
   going : Going s c (length h) key
   grown : (more : List Change) × (s.history ≡ h ++ more)
 
-since_event : (h : List Change) (s : State) (c : ℕ) (key : Key) (e : Event) → IsNoSeek c e → Since h s c key → Since h (after_event s e) c key
+since_event : (h : List Change) (s : State) (c : ℕ) (key : Key) (e : Event) → IsNoSeek c e → Since h s c key → Since h (Laws.after_event s e) c key
 since_event h s c key e other is =
     let grows = history_grows s e in
     let more : List Change = is.grown.0 in record {
-      holds = after_keeps s (step s e) is.holds (step_keeps s e is.holds);
-      going = each_event (λ o. Going (state_after s o) c (length h) key) s e is.going (λ n r made. made_going s n c (length h) key e r is.holds other is.going made);
+      holds = after_keeps s (Events.step s e) is.holds (step_keeps s e is.holds);
+      going = each_event (λ o. Going (Events.state_after s o) c (length h) key) s e is.going (λ n r made. made_going s n c (length h) key e r is.holds other is.going made);
       grown = (more ++ grows.0, grows.1 ∙ (ap (λ (l : List Change). l ++ grows.0) is.grown.1 ∙ append_assoc h more grows.0));
     }
 
-since_events : (h : List Change) (s : State) (c : ℕ) (key : Key) (es : List Event) → SeeksNone c es → Since h s c key → Since h (after s es) c key
+since_events : (h : List Change) (s : State) (c : ℕ) (key : Key) (es : List Event) → SeeksNone c es → Since h s c key → Since h (Laws.after s es) c key
 since_events h s c key [] none is = is
 since_events h s c key (e ∷ es) none is =
-    subst (λ (n : State). Since h n c key) (sym (after_more s e es)) (since_events h (after_event s e) c key es none.1 (since_event h s c key e none.0 is))
+    subst (λ (n : State). Since h n c key) (sym (after_more s e es)) (since_events h (Laws.after_event s e) c key es none.1 (since_event h s c key e none.0 is))
 
 -- The begin
 
-allowed_guard : (b : Bool) (o : Option Outcome) → IsSome (guard b o) → b ≡ true
+allowed_guard : (b : Bool) (o : Option Outcome) → IsSome (Events.guard b o) → b ≡ true
 allowed_guard b o is = grind arith
 
-guarded : (s n : State) (b : Bool) (r : Reply) → b ≡ true → state_after s (guard b (some_outcome n r)) ≡ n
+guarded : (s n : State) (b : Bool) (r : Reply) → b ≡ true → Events.state_after s (Events.guard b (Events.some_outcome n r)) ≡ n
 guarded s n b r is = grind arith
 
-since_seek : (s : State) (c : ℕ) (key : Key) → Holds s → IsAllowed s (seek_for c key) → Since s.history (after_event s (seek_for c key)) c key
+since_seek : (s : State) (c : ℕ) (key : Key) → Holds s → IsAllowed s (Laws.seek_for c key) → Since s.history (Laws.after_event s (Laws.seek_for c key)) c key
 since_seek s c key on allowed =
-    let may : may_seek s c ≡ true = allowed_guard (may_seek s c) _ allowed in
-    let p = and_parts (is_idle s c) (is_inside s c) may in
+    let may : Events.may_seek s c ≡ true = allowed_guard (Events.may_seek s c) _ allowed in
+    let p = and_parts (Events.is_idle s c) (Events.is_inside s c) may in
     let in_ : (b : ℕ) × (begin_at s c ≡ Some b) = some_from (begin_at s c) p.1 in
     let start : Search = record { key = key; start = seen_at s c; place = AtHead } in
     let lt : c < length s.searches = let a = (idle_parts s c p.0).0 in omega (arith, a, on.shape.searches, on.seats.within) in
-    let now : search_at (after_seek s c key) c ≡ Some start = get_or-set_same s.searches c (Some start) None lt in
-    let begun : Since s.history (after_seek s c key) c key = record {
-      holds = subst Holds (guarded s (after_seek s c key) (may_seek s c) Done may) (after_keeps s (step s (seek_for c key)) on (step_keeps s (seek_for c key) on));
-      going = λ q is. let same : start ≡ q = same_Some start q (sym now ∙ is) in subst (λ (r : Search). Goes (after_seek s c key) c (length s.history) key r) same (record {
+    let now : search_at (Events.after_seek s c key) c ≡ Some start = get_or-set_same s.searches c (Some start) None lt in
+    let begun : Since s.history (Events.after_seek s c key) c key = record {
+      holds = subst Holds (guarded s (Events.after_seek s c key) (Events.may_seek s c) Done may) (after_keeps s (Events.step s (Laws.seek_for c key)) on (step_keeps s (Laws.seek_for c key) on));
+      going = λ q is. let same : start ≡ q = same_Some start q (sym now ∙ is) in subst (λ (r : Search). Goes (Events.after_seek s c key) c (length s.history) key r) same (record {
         sought = refl;
         walk = record { begin = in_.0; open_since = in_.1; since = omega (arith, on.sections.begun c in_.0 in_.1, on.sections.prefix c); by_now = omega arith };
         stands = tt;
@@ -173,18 +177,18 @@ since_seek s c key on allowed =
       });
       grown = ([], sym (append-nil s.history));
     } in
-    subst (λ (n : State). Since s.history n c key) (sym (guarded s (after_seek s c key) (may_seek s c) Done may)) begun
+    subst (λ (n : State). Since s.history n c key) (sym (guarded s (Events.after_seek s c key) (Events.may_seek s c) Done may)) begun
 
 -- The answer
 
-answered_by : (n : State) (c from left : ℕ) (q : Search) (r : Reply) (answer : Option Entry) → IsStep n c from q left r → answer_of r ≡ Some answer → IsLawful n.history from (seen_at n c) q.key answer
+answered_by : (n : State) (c from left : ℕ) (q : Search) (r : Reply) (answer : Option Entry) → IsStep n c from q left r → Laws.answer_of r ≡ Some answer → IsLawful n.history from (seen_at n c) q.key answer
 answered_by n c from left q r answer is same = grind (arith, same_Some, none-some)
 
 -- an allowed load has a search
-load_searches : (s : State) (c : ℕ) (e : Event) (o : Outcome) (found : Option Search) → IsLoadOf c e → search_at s c ≡ found → step s e ≡ Some o → (q : Search) × (search_at s c ≡ Some q)
+load_searches : (s : State) (c : ℕ) (e : Event) (o : Outcome) (found : Option Search) → IsLoadOf c e → search_at s c ≡ found → Events.step s e ≡ Some o → (q : Search) × (search_at s c ≡ Some q)
 load_searches s c e o found of is made = grind (arith, none-some)
 
-load_lawful : (h : List Change) (s : State) (c : ℕ) (key : Key) (e : Event) (o : Outcome) (answer : Option Entry) → Since h s c key → IsLoadOf c e → step s e ≡ Some o → answer_of o.reply ≡ Some answer
+load_lawful : (h : List Change) (s : State) (c : ℕ) (key : Key) (e : Event) (o : Outcome) (answer : Option Entry) → Since h s c key → IsLoadOf c e → Events.step s e ≡ Some o → Laws.answer_of o.reply ≡ Some answer
     → IsLawful o.state.history (length h) (seen_at o.state c) key answer
 load_lawful h s c key e o answer is of made reply =
     let search = load_searches s c e o (search_at s c) of refl made in
@@ -217,14 +221,14 @@ left_as old new more seen key (Some f) e p grown lawful at end is =
 
 pub answers_freshly : (s : State) → Holds s → AnswersFreshly s
 answers_freshly s on c key since event o answer allowed none of made reply =
-    let n : State = after (after_event s (seek_for c key)) since in
-    let is : Since s.history n c key = since_events s.history (after_event s (seek_for c key)) c key since none (since_seek s c key on allowed) in
+    let n : State = Laws.after (Laws.after_event s (Laws.seek_for c key)) since in
+    let is : Since s.history n c key = since_events s.history (Laws.after_event s (Laws.seek_for c key)) c key since none (since_seek s c key on allowed) in
     let lawful = load_lawful s.history n c key event o answer is of made reply in
     let last = history_grows n event in
     let more : List Change = is.grown.0 ++ last.0 in
     let grown : o.state.history ≡ s.history ++ more =
-    ap (λ (x : Option Outcome). (state_after n x).history) (sym made) ∙ (last.1 ∙ (ap (λ (l : List Change). l ++ last.0) is.grown.1 ∙ append_assoc s.history is.grown.0 last.0)) in
-    let holds : Holds o.state = subst (λ (x : Option Outcome). Holds (state_after n x)) made (after_keeps n (step n event) is.holds (step_keeps n event is.holds)) in
+    ap (λ (x : Option Outcome). (Events.state_after n x).history) (sym made) ∙ (last.1 ∙ (ap (λ (l : List Change). l ++ last.0) is.grown.1 ∙ append_assoc s.history is.grown.0 last.0)) in
+    let holds : Holds o.state = subst (λ (x : Option Outcome). Holds (Events.state_after n x)) made (after_keeps n (Events.step n event) is.holds (step_keeps n event is.holds)) in
     record {
       lawful = lawful;
       met = λ e live same stays. met_as s.history o.state.history more (seen_at o.state c) key answer e holds.legal grown lawful lawful.answered live same stays;
@@ -238,36 +242,36 @@ record Confirms (s : State) (c : ℕ) (h : Hand) : Type 0 where
   slot : ℕ
   number : ℕ
   hand : h ≡ Trying slot number
-  may : may_confirm s c number (slot_at s.slots slot) ≡ true
-  state : state_after s (confirm s c h) ≡ after_confirm s c
+  may : Events.may_confirm s c number (slot_at s.slots slot) ≡ true
+  state : Events.state_after s (Events.confirm s c h) ≡ Events.after_confirm s c
 
-confirms : (s : State) (c : ℕ) (h : Hand) → IsSome (confirm s c h) → Confirms s c h
+confirms : (s : State) (c : ℕ) (h : Hand) → IsSome (Events.confirm s c h) → Confirms s c h
 confirms s c h allowed = grind (arith, allowed_guard, guarded)
 
 -- an allowed Refind: the slot has a live entry
 record AllowsRefind (s : State) (c t n : ℕ) (x : Slot) : Type 0 where
   entry : Entry
   live : x ≡ Live entry
-  may : may_refind s c t n entry ≡ true
-  state : state_after s (refind s c t n x) ≡ after_refind s c entry
+  may : Events.may_refind s c t n entry ≡ true
+  state : Events.state_after s (Events.refind s c t n x) ≡ Events.after_refind s c entry
 
-refinds : (s : State) (c t n : ℕ) (x : Slot) → IsSome (refind s c t n x) → AllowsRefind s c t n x
+refinds : (s : State) (c t n : ℕ) (x : Slot) → IsSome (Events.refind s c t n x) → AllowsRefind s c t n x
 refinds s c t n x allowed = grind (arith, allowed_guard, guarded)
 
 pub sees_all : (s : State) → Holds s → SeesAll s
 sees_all s on = grind (arith, allowed_guard, idle_parts, and_parts, guarded, get_or-set_same, recall_tells, recall_head_tells, refinds, refind_tells, confirms, trying_tells)
 
 -- the entry of the history with the number of the slot's live entry is that one
-pub live_is : (s : State) (t n : ℕ) (e : Entry) → Holds s → has_live n (slot_at s.slots t) ≡ true → IsAttached s.history e → e.number ≡ n → IsLiveAt s.history (length s.history) e × (e.slot ≡ t)
+pub live_is : (s : State) (t n : ℕ) (e : Entry) → Holds s → Events.has_live n (slot_at s.slots t) ≡ true → IsAttached s.history e → e.number ≡ n → IsLiveAt s.history (length s.history) e × (e.slot ≡ t)
 live_is s t n e on test attached number = grind (arith, live_tells, one_entry)
 
-pub honest_tells : (n : ℕ) (x : Slot) → 0 < n → is_honest n x ≡ true → has_live n x ≡ true
+pub honest_tells : (n : ℕ) (x : Slot) → 0 < n → Events.is_honest n x ≡ true → Events.has_live n x ≡ true
 honest_tells n x some test = grind arith
 
 pub recalls_live : (s : State) → Holds s → RecallsLive s
 recalls_live s on = record {
   recalled = λ c t e allowed attached number.
-      let may : may_recall s c t ≡ true = allowed_guard (may_recall s c t) _ allowed in
+      let may : Events.may_recall s c t ≡ true = allowed_guard (Events.may_recall s c t) _ allowed in
       let some : 0 < live_at s.lives t = let within = attached_within s.history e attached in omega (arith, within.0, number) in
       live_is s t (live_at s.lives t) e on (honest_tells (live_at s.lives t) (slot_at s.slots t) some (recall_tells s c t may).3) attached number;
   confirmed = λ c t e hand allowed attached.
@@ -283,10 +287,10 @@ recalls_live s on = record {
       let shown = on.slots.live t made.entry made.live in
       let same : made.entry ≡ e = one_entry s.history made.entry e shown.0.attached attached told.3 in
       let lt = told.0 in
-      let found : found_at (after_refind s c made.entry) c ≡ Some made.entry =
+      let found : found_at (Events.after_refind s c made.entry) c ≡ Some made.entry =
       get_or-set_same s.found c (Some made.entry) None (omega (arith, lt, on.shape.found, on.seats.within)) in
-      let now : found_at (after_event s (Refind c t e.number)) c ≡ Some made.entry = ap (λ (n : State). found_at n c) made.state ∙ found in
-      subst (λ (f : Entry). IsLiveAt s.history (length s.history) f × (f.slot ≡ t) × (found_at (after_event s (Refind c t e.number)) c ≡ Some f)) same (shown.0, shown.1, now);
+      let now : found_at (Laws.after_event s (Refind c t e.number)) c ≡ Some made.entry = ap (λ (n : State). found_at n c) made.state ∙ found in
+      subst (λ (f : Entry). IsLiveAt s.history (length s.history) f × (f.slot ≡ t) × (found_at (Laws.after_event s (Refind c t e.number)) c ≡ Some f)) same (shown.0, shown.1, now);
 }
 
 -- the head leads to the newest live entry
@@ -301,20 +305,20 @@ head_newest h _ legal (To_entry e live lt most) = record {
 }
 
 -- only one word is replied
-pub one_word : (b : Bool) (s n : State) (m w : ℕ) → guard b (some_outcome s (Word m)) ≡ Some (record { state = n; reply = Word w }) → m ≡ w
+pub one_word : (b : Bool) (s n : State) (m w : ℕ) → Events.guard b (Events.some_outcome s (Word m)) ≡ Some (record { state = n; reply = Word w }) → m ≡ w
 one_word b s n m w is = grind (arith, same_Some, none-some)
 
 pub recalls_newest : (s : State) → Holds s → RecallsNewest s
-recalls_newest s on c w n made = subst (IsNewestAt s.history) (one_word (may_recall_head s c) (after_seeing s c) n s.head w made) (head_newest s.history s.head on.legal on.list.first)
+recalls_newest s on c w n made = subst (IsNewestAt s.history) (one_word (Events.may_recall_head s c) (Events.after_seeing s c) n s.head w made) (head_newest s.history s.head on.legal on.list.first)
 
 pub fresh_answers : FreshAnswers
-fresh_answers z events fit = answers_freshly (after (opening z) events) (every_run_keeps z events fit)
+fresh_answers z events fit = answers_freshly (Laws.after (opening z) events) (every_run_keeps z events fit)
 
 pub whole_passes : WholePasses
-whole_passes z events fit = sees_all (after (opening z) events) (every_run_keeps z events fit)
+whole_passes z events fit = sees_all (Laws.after (opening z) events) (every_run_keeps z events fit)
 
 pub live_recalls : LiveRecalls
-live_recalls z events fit = recalls_live (after (opening z) events) (every_run_keeps z events fit)
+live_recalls z events fit = recalls_live (Laws.after (opening z) events) (every_run_keeps z events fit)
 
 pub newest_recalls : NewestRecalls
-newest_recalls z events fit = recalls_newest (after (opening z) events) (every_run_keeps z events fit)
+newest_recalls z events fit = recalls_newest (Laws.after (opening z) events) (every_run_keeps z events fit)

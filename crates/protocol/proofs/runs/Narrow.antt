@@ -9,7 +9,9 @@ use Rattle.protocol.proofs.keeps.Replacing.{may_republish_tells}
 use Rattle.registry_values.specs.Common.{is_lawful}
 use Rattle.registry_values.specs.Names.{are_name_words, are_key_words}
 use Rattle.registry_values.specs.Common.{bias}
-use Rattle.protocol.specs.Common.{IsAttached, Event, Publish, Outcome, Reply, RecordWords, State, guard, names_lawfully, narrow_step, opening, row_at, state_after, step, Run, empty_run, narrow_run_of_events, run_of_events, run_with_event, with_lawful_names, after_change, entry_of, Holds, AreNamedLawfully, NarrowEvents, NarrowNames, NarrowRuns, Found, FrozenLink, CollectRace, ReplaceRace, ReplacedUnder, KeptDriver, two_slots, keep_events, keep_case, wm, wm_entry, Ref, attaches_two, only_two, replace_begins, replace_case, replaces_one, loads_five, replace_replies, newer, replies, try_events, after, LoadLink, TryRace, Gives, two_cpus, attaches, done_replies, loads, try_replies, first, all_three, search_begins, wm0, wm1, wm2, search_case, detaches, unlinked_case, search_goes_on, has_found}
+use Rattle.protocol.specs.Common.{IsAttached, Event, Publish, Outcome, Reply, RecordWords, State, guard, names_lawfully, narrow_step, opening, row_at, state_after, step, Run, after_change, entry_of, Holds, AreNamedLawfully, NarrowEvents, NarrowNames, NarrowRuns, Found, FrozenLink, CollectRace, ReplaceRace, ReplacedUnder, KeptDriver, Ref, after, LoadLink, TryRace, Gives}
+use Rattle.protocol.specs.Rows
+use Rattle.protocol.specs.Model
 use Rattle.protocol.proofs.Either.{either}
 use Rattle.protocol.proofs.History.{attach_cases, empty_brings}
 use Rattle.protocol.proofs.keeps.Keeping.{after_keeps, opening_holds, step_keeps}
@@ -38,21 +40,21 @@ record Alike (x y : Run) (all kept : List Event) (m n : ℕ) : Type 0 where
 
 abbrev AllAlike : List Event → Type 0
 AllAlike es = (s : State) (k m n : ℕ) (l : Option Reply)
-    → Alike (narrow_run_of_events (made s k m l) es) (run_of_events (made s k n l) (with_lawful_names s es)) es (with_lawful_names s es) m n
+    → Alike (Model.narrow_run_of_events (made s k m l) es) (Model.run_of_events (made s k n l) (Model.with_lawful_names s es)) es (Model.with_lawful_names s es) m n
 
 alike_step : (s : State) (es : List Event) (k m n : ℕ) (l : Option Reply) (o : Option Outcome) → AllAlike es
-    → Alike (narrow_run_of_events (run_with_event (made s k m l) o) es) (run_of_events (run_with_event (made s k n l) o) (with_lawful_names (state_after s o) es)) es (with_lawful_names (state_after s o) es) m n
+    → Alike (Model.narrow_run_of_events (Model.run_with_event (made s k m l) o) es) (Model.run_of_events (Model.run_with_event (made s k n l) o) (Model.with_lawful_names (state_after s o) es)) es (Model.with_lawful_names (state_after s o) es) m n
 alike_step s es k m n l o all = grind arith
 
 -- by the name that the first event publishes, if it does
 alike_name : (s : State) (e : Event) (es : List Event) (k m n : ℕ) (l : Option Reply) (b : Bool) → AllAlike es
-    → Alike (narrow_run_of_events (run_with_event (made s k m l) (guard b (step s e))) es)
-    (run_of_events (made s k n l) (if b then e ∷ with_lawful_names (state_after s (step s e)) es else with_lawful_names s es)) (e ∷ es)
-    (if b then e ∷ with_lawful_names (state_after s (step s e)) es else with_lawful_names s es) m n
+    → Alike (Model.narrow_run_of_events (Model.run_with_event (made s k m l) (guard b (step s e))) es)
+    (Model.run_of_events (made s k n l) (if b then e ∷ Model.with_lawful_names (state_after s (step s e)) es else Model.with_lawful_names s es)) (e ∷ es)
+    (if b then e ∷ Model.with_lawful_names (state_after s (step s e)) es else Model.with_lawful_names s es) m n
 alike_name s e es k m n l b all = grind (arith, alike_step)
 
 alike : (es : List Event) (s : State) (k m n : ℕ) (l : Option Reply)
-    → Alike (narrow_run_of_events (made s k m l) es) (run_of_events (made s k n l) (with_lawful_names s es)) es (with_lawful_names s es) m n
+    → Alike (Model.narrow_run_of_events (made s k m l) es) (Model.run_of_events (made s k n l) (Model.with_lawful_names s es)) es (Model.with_lawful_names s es) m n
 alike [] s k m n l = record { state = refl; taken = refl; last = refl; refused = omega arith }
 alike (e ∷ es) s k m n l = alike_name s e es k m n l (names_lawfully s e) (alike es)
 
@@ -91,30 +93,30 @@ named_if s event false on is named = named
 holds_if : (s : State) (event : Event) (b : Bool) → Holds s → Holds (state_after s (guard b (step s event)))
 holds_if s event b on = grind (arith, after_keeps, step_keeps)
 
-ran_named : (r : Run) (es : List Event) → Holds r.state → AreNamedLawfully r.state.history → AreNamedLawfully (narrow_run_of_events r es).state.history
+ran_named : (r : Run) (es : List Event) → Holds r.state → AreNamedLawfully r.state.history → AreNamedLawfully (Model.narrow_run_of_events r es).state.history
 ran_named r [] on named = named
 ran_named r (e ∷ es) on named =
     let turned = turned_state r (narrow_step r.state e) in
-    ran_named (run_with_event r (narrow_step r.state e)) es
+    ran_named (Model.run_with_event r (narrow_step r.state e)) es
     (subst Holds (sym turned) (holds_if r.state e (names_lawfully r.state e) on))
     (subst (λ (s : State). AreNamedLawfully s.history) (sym turned) (named_if r.state e (names_lawfully r.state e) on refl named))
 
 pub narrow_names : NarrowNames
-narrow_names z events fit = ran_named (empty_run (opening z)) events (opening_holds z fit) (λ e att. absurd (empty_brings e.number e att))
+narrow_names z events fit = ran_named (Model.empty_run (opening z)) events (opening_holds z fit) (λ e att. absurd (empty_brings e.number e att))
 
 -- The worked rows, computed.
 
-attached : Gives (opening two_cpus) attaches (done_replies 35) all_three
+attached : Gives (opening Rows.two_cpus) Rows.attaches (Rows.done_replies 35) Rows.all_three
 unfolding are_key_words
 attached = (refl, refl)
 
-begun : Gives all_three search_begins (done_replies 2 ++ loads 3 ++ loads 3 ++ loads 2 ++ loads wm2.high ++ loads 0 ++ loads 2 ++ loads 2 ++ loads 2) search_case
+begun : Gives Rows.all_three Rows.search_begins (Rows.done_replies 2 ++ Rows.loads 3 ++ Rows.loads 3 ++ Rows.loads 2 ++ Rows.loads Rows.wm2.high ++ Rows.loads 0 ++ Rows.loads 2 ++ Rows.loads 2 ++ Rows.loads 2) Rows.search_case
 begun = (refl, refl)
 
-detached : Gives search_case detaches (done_replies 1 ++ loads 1 ++ loads 0 ++ done_replies 3 ++ loads 1 ++ loads 0 ++ done_replies 2 ++ try_replies ++ try_replies) unlinked_case
+detached : Gives Rows.search_case Rows.detaches (Rows.done_replies 1 ++ Rows.loads 1 ++ Rows.loads 0 ++ Rows.done_replies 3 ++ Rows.loads 1 ++ Rows.loads 0 ++ Rows.done_replies 2 ++ Rows.try_replies ++ Rows.try_replies) Rows.unlinked_case
 detached = (refl, refl)
 
-gone_on : Gives unlinked_case search_goes_on (loads wm1.high ++ loads 0 ++ loads 1 ++ loads 1 ++ loads 2 ++ loads wm0.high ++ loads 0 ++ Some (Found first) ∷ []) has_found
+gone_on : Gives Rows.unlinked_case Rows.search_goes_on (Rows.loads Rows.wm1.high ++ Rows.loads 0 ++ Rows.loads 1 ++ Rows.loads 1 ++ Rows.loads 2 ++ Rows.loads Rows.wm0.high ++ Rows.loads 0 ++ Some (Found Rows.first) ∷ []) Rows.has_found
 gone_on = (refl, refl)
 
 pub frozen_link : FrozenLink
@@ -128,24 +130,24 @@ pub try_race : TryRace
 unfolding are_key_words
 try_race = record { tries = refl; tried = refl; confirmed = refl; detached = refl; headed = refl; refound = refl; unhidden = refl; freed = refl; given = refl }
 
-attached_two : Gives (opening two_cpus) attaches_two (done_replies 24) only_two
+attached_two : Gives (opening Rows.two_cpus) Rows.attaches_two (Rows.done_replies 24) Rows.only_two
 unfolding are_key_words
 attached_two = (refl, refl)
 
-replace_begun : Gives only_two replace_begins (done_replies 10 ++ loads 2 ++ loads 2 ++ loads 2 ++ loads wm1.high ++ loads 0) replace_case
+replace_begun : Gives Rows.only_two Rows.replace_begins (Rows.done_replies 10 ++ Rows.loads 2 ++ Rows.loads 2 ++ Rows.loads 2 ++ Rows.loads Rows.wm1.high ++ Rows.loads 0) Rows.replace_case
 replace_begun = (refl, refl)
 
-replace_later : replies replace_case (replaces_one ++ LoadLink 0 ∷ loads_five)
-    ≡ replace_replies ++ loads 3 ++ loads 3 ++ loads 2 ++ loads wm0.high ++ loads 0 ++ Some (Found newer) ∷ []
+replace_later : Rows.replies Rows.replace_case (Rows.replaces_one ++ LoadLink 0 ∷ Rows.loads_five)
+    ≡ Rows.replace_replies ++ Rows.loads 3 ++ Rows.loads 3 ++ Rows.loads 2 ++ Rows.loads Rows.wm0.high ++ Rows.loads 0 ++ Some (Found Rows.newer) ∷ []
 unfolding are_key_words rank_at change_at
 replace_later = refl
 
-replace_earlier : replies replace_case (LoadLink 0 ∷ (replaces_one ++ loads_five))
-    ≡ loads 1 ++ replace_replies ++ loads 1 ++ loads 2 ++ loads wm0.high ++ loads 0 ++ Some (Found first) ∷ []
+replace_earlier : Rows.replies Rows.replace_case (LoadLink 0 ∷ (Rows.replaces_one ++ Rows.loads_five))
+    ≡ Rows.loads 1 ++ Rows.replace_replies ++ Rows.loads 1 ++ Rows.loads 2 ++ Rows.loads Rows.wm0.high ++ Rows.loads 0 ++ Some (Found Rows.first) ∷ []
 unfolding are_key_words rank_at change_at
 replace_earlier = refl
 
-replace_kept : replies (after replace_case replaces_one) (try_events 0) ≡ try_replies
+replace_kept : Rows.replies (after Rows.replace_case Rows.replaces_one) (Rows.try_events 0) ≡ Rows.try_replies
 unfolding are_key_words rank_at change_at
 replace_kept = refl
 
@@ -156,8 +158,8 @@ pub replaced_under : ReplacedUnder
 unfolding are_key_words rank_at change_at
 replaced_under = record { begun = (refl, refl); replaced = (refl, refl); goes_on = refl; anew = refl; kept = refl }
 
-kept_attached : Gives (opening two_slots) keep_events
-    (done_replies 13 ++ loads 1 ++ loads 1 ++ loads 2 ++ loads wm.high ++ loads 0 ++ Some (Found wm_entry) ∷ loads bias ++ Some (Ref 0) ∷ done_replies 12) keep_case
+kept_attached : Gives (opening Rows.two_slots) Rows.keep_events
+    (Rows.done_replies 13 ++ Rows.loads 1 ++ Rows.loads 1 ++ Rows.loads 2 ++ Rows.loads Rows.wm.high ++ Rows.loads 0 ++ Some (Found Rows.wm_entry) ∷ Rows.loads bias ++ Some (Ref 0) ∷ Rows.done_replies 12) Rows.keep_case
 unfolding are_key_words
 kept_attached = (refl, refl)
 

@@ -15,7 +15,8 @@ use Rattle.protocol.proofs.keeps.Linking.{legal_attach, live_cases, new_attached
 use Rattle.protocol.proofs.keeps.SectionKeeps.{none_from, some_from}
 use Rattle.protocol.proofs.Either.{either}
 use Rattle.passive_core.proofs.Advancing.{least_some}
-use Rattle.registry_report.specs.Common.{attach_answer, attach_iface_answer, detach_answer, given_entry, command_answer, is_inside, is_available, lookup_now, first_fit, room_of, with_label, entry_of, is_driver_entry, is_driver_number, Registry, HasSlot, IsSound, IsSoundModel, IsLawfulTurn, with_attached, with_detached, with_reference_kept, on_ok, on_some, with_attached_iface, with_all_seen, with_entry, advance_answer, has_passive, has_section, held_count, is_this, first_obstacle, retired_slot, slot_of, stage_in, end_of, has_ended, may_hold, after_advance, with_freed, after_stage}
+use Rattle.registry_report.specs.Common.{entry_of, is_driver_entry, is_driver_number, Registry, HasSlot, IsSound, IsSoundModel, IsLawfulTurn, end_of, has_ended, may_hold}
+use Rattle.registry_report.specs.Turns
 use Rattle.registry_report.proofs.Lookups.{entry_is, lookup_is, end_tells}
 use Rattle.registry_report.proofs.sound.Turns.{dropped_counts, else_ok, hitched_ok, idle_turn, labelled_counts, not_ok, ok_turn, put_capped, put_cases, put_none, same_ok, still_there, count_none, is_this_own, is_this_tells, still_beside}
 
@@ -23,7 +24,7 @@ use Rattle.registry_report.proofs.sound.Turns.{dropped_counts, else_ok, hitched_
 
 -- a new entry in a vacant slot
 attach_keeps : (z : Settings) (m : Model) (labels : ℕ → Option ℕ) (c : ℕ) (e : Entry) → IsSoundModel z m labels → m.occupants e.slot ≡ None → e.number ≡ suc (length m.history)
-    → IsLegal (after_change m.history (Attach e)) → IsSoundModel z (with_all_seen (with_entry m e) c) labels
+    → IsLegal (after_change m.history (Attach e)) → IsSoundModel z (Turns.with_all_seen (Turns.with_entry m e) c) labels
 attach_keeps z m labels c e on vacant number legal =
     let size : length (after_change m.history (Attach e)) ≡ suc (length m.history) = length-after_change m.history (Attach e) in
     let here : (f : Entry) → f ≡ e → put m.occupants e.slot (Some e.number) f.slot ≡ Some f.number =
@@ -55,7 +56,7 @@ attach_keeps z m labels c e on vacant number legal =
 
 -- the end of a live entry
 detach_keeps : (z : Settings) (m : Model) (labels : ℕ → Option ℕ) (c : ℕ) (e : Entry) → IsSoundModel z m labels → IsLiveAt m.history (length m.history) e
-    → IsSoundModel z (with_all_seen (record m { history = after_change m.history (Detach e.number) }) c) labels
+    → IsSoundModel z (Turns.with_all_seen (record m { history = after_change m.history (Detach e.number) }) c) labels
 detach_keeps z m labels c e on live =
     let size : length (after_change m.history (Detach e.number)) ≡ suc (length m.history) = length-after_change m.history (Detach e.number) in
     record {
@@ -80,20 +81,20 @@ detach_keeps z m labels c e on live =
 -- What an attach that isn't refused tells
 
 record Given (r : Registry) (rec : Record) (e : Entry) : Type 0 where
-  new_key : lookup_now r (key_of_record rec) ≡ None
+  new_key : Turns.lookup_now r (key_of_record rec) ≡ None
   within : e.slot < r.settings.slots
   vacant : r.model.occupants e.slot ≡ None
   keepless : r.model.keeps e.slot ≡ None
   number : e.number ≡ suc (length r.model.history)
   is : e.rec ≡ rec
 
-given_tells : (r : Registry) (rec : Record) (e : Entry) → given_entry r rec ≡ Ok e → Given r rec e
+given_tells : (r : Registry) (rec : Record) (e : Entry) → Turns.given_entry r rec ≡ Ok e → Given r rec e
 given_tells r rec e is =
-    let told = answers.given_tells (is_some (lookup_now r (key_of_record rec))) (first_fit r) (room_of r) rec e is in
-    let least = least_some (is_available r) r.settings.slots e.slot told.place in
+    let told = answers.given_tells (is_some (Turns.lookup_now r (key_of_record rec))) (Turns.first_fit r) (Turns.room_of r) rec e is in
+    let least = least_some (Turns.is_available r) r.settings.slots e.slot told.place in
     let fit = and_parts (is_none (r.model.occupants e.slot)) (is_none (r.model.keeps e.slot)) least.1 in
     record {
-      new_key = none_is (lookup_now r (key_of_record rec)) told.free;
+      new_key = none_is (Turns.lookup_now r (key_of_record rec)) told.free;
       within = least.0;
       vacant = none_from (r.model.occupants e.slot) fit.0;
       keepless = none_from (r.model.keeps e.slot) fit.1;
@@ -119,24 +120,24 @@ driver_is Driver is = refl
 
 -- Attach
 
-pub attached_lawful : (r : Registry) (c : ℕ) (rec : Record) (e : Entry) → IsSound r → attach_answer r c rec ≡ Ok e → IsLawfulTurn r (with_attached r c e)
+pub attached_lawful : (r : Registry) (c : ℕ) (rec : Record) (e : Entry) → IsSound r → Turns.attach_answer r c rec ≡ Ok e → IsLawfulTurn r (Turns.with_attached r c e)
 attached_lawful r c rec e on is =
-    let outside = else_ok (is_inside r c) Inside _ e is in
-    let driver = else_ok (is_iface rec.kind) NeedsDriver (given_entry r rec) e outside.1 in
+    let outside = else_ok (Turns.is_inside r c) Inside _ e is in
+    let driver = else_ok (is_iface rec.kind) NeedsDriver (Turns.given_entry r rec) e outside.1 in
     let given = given_tells r rec e driver.1 in
     let legal = given_legal r rec e on given in
     let rightly : keeps_rightly (r.model.keeps e.slot) e.rec.kind ≡ true =
     ap (λ (o : Option ℕ). keeps_rightly o e.rec.kind) given.keepless ∙ driver_from e.rec.kind (ap (λ (x : Record). is_iface x.kind) given.is ∙ driver.0) in
     let le : r.model.passes c ≤ length (after_change r.model.history (Attach e)) = omega (arith, on.seen c, length-after_change r.model.history (Attach e)) in (
       attach_keeps r.settings r.model r.local_labels c e on given.vacant given.number legal,
-      Goes_on (with_entry r.model e) _ (Goes_on r.model _ Stays (Attaches e given.vacant legal given.number rightly)) (Sees c (length (after_change r.model.history (Attach e))) le (omega arith)),
+      Goes_on (Turns.with_entry r.model e) _ (Goes_on r.model _ Stays (Attaches e given.vacant legal given.number rightly)) (Sees c (length (after_change r.model.history (Attach e))) le (omega arith)),
       refl,
     )
 
 -- Plug
 
 -- a slot takes the reference of a label over
-keep_keeps : (z : Settings) (m : Model) (labels : ℕ → Option ℕ) (t x d : ℕ) → IsSoundModel z m labels → t < z.slots → labels x ≡ Some d → IsSoundModel z (with_reference_kept m t d) (put labels x None)
+keep_keeps : (z : Settings) (m : Model) (labels : ℕ → Option ℕ) (t x d : ℕ) → IsSoundModel z m labels → t < z.slots → labels x ≡ Some d → IsSoundModel z (Turns.with_reference_kept m t d) (put labels x None)
 keep_keeps z m labels t x d on lt at =
     let keeping : (u n : ℕ) → put m.keeps t (Some d) u ≡ Some n → u < z.slots =
     λ u n is. either (put_cases m.keeps t (Some d) u) (λ here. omega (arith, here.0)) (λ off. on.keeping u n (sym off.1 ∙ is)) in
@@ -153,11 +154,11 @@ driver_here m d has is = record {
   occupant = has.occupant;
 }
 
-pub plugged_lawful : (r : Registry) (c : ℕ) (rec : Record) (x d : ℕ) (e : Entry) → IsSound r → is_iface rec.kind ≡ true → r.local_labels x ≡ Some d → attach_iface_answer r c rec d ≡ Ok e
-    → IsLawfulTurn r (with_attached_iface r c e x d)
+pub plugged_lawful : (r : Registry) (c : ℕ) (rec : Record) (x d : ℕ) (e : Entry) → IsSound r → is_iface rec.kind ≡ true → r.local_labels x ≡ Some d → Turns.attach_iface_answer r c rec d ≡ Ok e
+    → IsLawfulTurn r (Turns.with_attached_iface r c e x d)
 plugged_lawful r c rec x d e on iface at is =
-    let outside = else_ok (is_inside r c) Inside _ e is in
-    let driver = else_ok (not (is_driver_number r.model.history d)) NeedsDriver (given_entry r rec) e outside.1 in
+    let outside = else_ok (Turns.is_inside r c) Inside _ e is in
+    let driver = else_ok (not (is_driver_number r.model.history d)) NeedsDriver (Turns.given_entry r rec) e outside.1 in
     let given = given_tells r rec e driver.1 in
     let legal = given_legal r rec e on given in
     let here = driver_here r.model d (on.labelled x d at) (not-false (is_driver_number r.model.history d) driver.0) in
@@ -165,20 +166,20 @@ plugged_lawful r c rec x d e on iface at is =
     let rightly : keeps_rightly (put r.model.keeps e.slot (Some d) e.slot) e.rec.kind ≡ true =
     ap (λ (o : Option ℕ). keeps_rightly o e.rec.kind) (put_here r.model.keeps e.slot (Some d)) ∙ (ap (λ (y : Record). is_iface y.kind) given.is ∙ iface) in
     let le : r.model.passes c ≤ length (after_change r.model.history (Attach e)) = omega (arith, on.seen c, length-after_change r.model.history (Attach e)) in (
-      attach_keeps r.settings (with_reference_kept r.model e.slot d) (put r.local_labels x None) c e
+      attach_keeps r.settings (Turns.with_reference_kept r.model e.slot d) (put r.local_labels x None) c e
           (keep_keeps r.settings r.model r.local_labels e.slot x d on given.within at) given.vacant given.number legal,
-      Goes_on (with_entry (with_reference_kept r.model e.slot d) e) _
-          (Goes_on (with_reference_kept r.model e.slot d) _ (Goes_on r.model _ Stays (Keeps e.slot d given.vacant given.keepless here some)) (Attaches e given.vacant legal given.number rightly))
+      Goes_on (Turns.with_entry (Turns.with_reference_kept r.model e.slot d) e) _
+          (Goes_on (Turns.with_reference_kept r.model e.slot d) _ (Goes_on r.model _ Stays (Keeps e.slot d given.vacant given.keepless here some)) (Attaches e given.vacant legal given.number rightly))
           (Sees c (length (after_change r.model.history (Attach e))) le (omega arith)),
       refl,
     )
 
 -- a record that is plugged is an interface's
 pub plug_by : (r : Registry) (c : ℕ) (rec : Record) (x : ℕ) (o : Option ℕ) → IsSound r → is_iface rec.kind ≡ true → r.local_labels x ≡ o
-    → IsLawfulTurn r (on_some r o (λ d. on_ok r (with_label o (λ d. command_answer (attach_iface_answer r c rec d))) (λ e. with_attached_iface r c e x d)))
+    → IsLawfulTurn r (Turns.on_some r o (λ d. Turns.on_ok r (Turns.with_label o (λ d. Turns.command_answer (Turns.attach_iface_answer r c rec d))) (λ e. Turns.with_attached_iface r c e x d)))
 plug_by r c rec x None on iface at = idle_turn r on
-plug_by r c rec x (Some d) on iface at = ok_turn r (command_answer (attach_iface_answer r c rec d)) (λ e. with_attached_iface r c e x d) on
-    (λ e is. plugged_lawful r c rec x d e on iface at (hitched_ok (attach_iface_answer r c rec d) e is))
+plug_by r c rec x (Some d) on iface at = ok_turn r (Turns.command_answer (Turns.attach_iface_answer r c rec d)) (λ e. Turns.with_attached_iface r c e x d) on
+    (λ e is. plugged_lawful r c rec x d e on iface at (hitched_ok (Turns.attach_iface_answer r c rec d) e is))
 
 -- Detach
 
@@ -186,11 +187,11 @@ found_tells : (o : Option Entry) (e : Entry) → found_answer o ≡ Ok e → o �
 found_tells None e is = absurd (not_ok NotFound e is)
 found_tells (Some f) e is = ap (λ (g : Entry). Some g) (same_ok {E = Refusal} f e is)
 
-pub detached_lawful : (r : Registry) (c : ℕ) (key : Key) (e : Entry) → IsSound r → detach_answer r c key ≡ Ok e → IsLawfulTurn r (with_detached r c e)
+pub detached_lawful : (r : Registry) (c : ℕ) (key : Key) (e : Entry) → IsSound r → Turns.detach_answer r c key ≡ Ok e → IsLawfulTurn r (Turns.with_detached r c e)
 detached_lawful r c key e on is =
-    let outside = else_ok (is_inside r c) Inside (found_answer (lookup_now r key)) e is in
+    let outside = else_ok (Turns.is_inside r c) Inside (found_answer (Turns.lookup_now r key)) e is in
     let found : IsLookup r.model.history (length r.model.history) key (Some e) =
-    subst (IsLookup r.model.history (length r.model.history) key) (found_tells (lookup_now r key) e outside.1) (lookup_is r.model.history on.legal key (length r.model.history)) in
+    subst (IsLookup r.model.history (length r.model.history) key) (found_tells (Turns.lookup_now r key) e outside.1) (lookup_is r.model.history on.legal key (length r.model.history)) in
     let le : r.model.passes c ≤ length (after_change r.model.history (Detach e.number)) = omega (arith, on.seen c, length-after_change r.model.history (Detach e.number)) in (
       detach_keeps r.settings r.model r.local_labels c e on found.0,
       Goes_on (record r.model { history = after_change r.model.history (Detach e.number) }) _ (Goes_on r.model _ Stays (Detaches e.number (legal_detach r.model.history e on.legal found.0)))
@@ -216,47 +217,47 @@ record IsFree (r : Registry) (n t : ℕ) : Type 0 where
   unheld : IsUnheld r.model n
 
 -- no section may hold an entry that ended if each such section would be in the way
-unheld_from : (r : Registry) (n t p : ℕ) → IsSound r → end_of r.model.history n ≡ Some p → EndsAt r.model.history n p → first_obstacle r n t ≡ Freed t → IsUnheld r.model n
+unheld_from : (r : Registry) (n t p : ℕ) → IsSound r → end_of r.model.history n ≡ Some p → EndsAt r.model.history n p → Turns.first_obstacle r n t ≡ Freed t → IsUnheld r.model n
 unheld_from r n t p on end ends stage =
-    let none = freed_tells t t (least_below (has_section r n) r.settings.cpus) (least_below (has_passive r n) r.settings.cpus) (held_count r n) stage in
+    let none = freed_tells t t (least_below (Turns.has_section r n) r.settings.cpus) (least_below (Turns.has_passive r n) r.settings.cpus) (Turns.held_count r n) stage in
     record {
       sections = λ c b e in_ hold same.
-          let off : has_section r n c ≡ false = least_none (has_section r n) r.settings.cpus none.0 c (on.begun c b in_).0 in
+          let off : Turns.has_section r n c ≡ false = least_none (Turns.has_section r n) r.settings.cpus none.0 c (on.begun c b in_).0 in
           let late : b < p = hold.unended p (subst (λ (k : ℕ). EndsAt r.model.history k p) (sym same) ends) in
-          let holds : has_section r n c ≡ true = ap (λ (o : Option ℕ). may_hold o (end_of r.model.history n)) in_ ∙ (ap (may_hold (Some b)) end ∙ lt-ltb b p late) in
-          both_ways (has_section r n c) off holds;
+          let holds : Turns.has_section r n c ≡ true = ap (λ (o : Option ℕ). may_hold o (end_of r.model.history n)) in_ ∙ (ap (may_hold (Some b)) end ∙ lt-ltb b p late) in
+          both_ways (Turns.has_section r n c) off holds;
       passive = λ c. either (cases_lt 0 (r.model.passive c n))
           (λ some.
-          let off : has_passive r n c ≡ false = least_none (has_passive r n) r.settings.cpus none.1 c (on.referring c n some) in
-          absurd (both_ways (has_passive r n c) off (lt-ltb 0 (r.model.passive c n) some)))
+          let off : Turns.has_passive r n c ≡ false = least_none (Turns.has_passive r n) r.settings.cpus none.1 c (on.referring c n some) in
+          absurd (both_ways (Turns.has_passive r n c) off (lt-ltb 0 (r.model.passive c n) some)))
           (λ no. omega arith);
       locals = omega (arith, none.2);
       keeps = λ u is.
-          let off : is_this n (r.model.keeps u) ≡ false = count_none (λ t. is_this n (r.model.keeps t)) r.settings.slots u (omega (arith, none.2)) (on.keeping u n is) in
-          both_ways (is_this n (r.model.keeps u)) off (ap (is_this n) is ∙ is_this_own n);
+          let off : Turns.is_this n (r.model.keeps u) ≡ false = count_none (λ t. Turns.is_this n (r.model.keeps t)) r.settings.slots u (omega (arith, none.2)) (on.keeping u n is) in
+          both_ways (Turns.is_this n (r.model.keeps u)) off (ap (Turns.is_this n) is ∙ is_this_own n);
     }
 
 retired_tells : (b : Bool) (o : Option ℕ) (t : ℕ) → (if b then o else None) ≡ Some t → (b ≡ true) × (o ≡ Some t)
 retired_tells true o t is = (refl, is)
 retired_tells false o t is = absurd (none-some t is)
 
-stage_tells : (r : Registry) (n : ℕ) (o : Option ℕ) (stage : Stage) → stage_in r n o ≡ Ok stage → (t : ℕ) × (o ≡ Some t) × (first_obstacle r n t ≡ stage)
+stage_tells : (r : Registry) (n : ℕ) (o : Option ℕ) (stage : Stage) → Turns.stage_in r n o ≡ Ok stage → (t : ℕ) × (o ≡ Some t) × (Turns.first_obstacle r n t ≡ stage)
 stage_tells r n None stage is = absurd (not_ok NotRetired stage is)
-stage_tells r n (Some t) stage is = (t, refl, same_ok {E = Refusal} (first_obstacle r n t) stage is)
+stage_tells r n (Some t) stage is = (t, refl, same_ok {E = Refusal} (Turns.first_obstacle r n t) stage is)
 
-free_tells : (r : Registry) (n t : ℕ) → IsSound r → advance_answer r n ≡ Ok (Freed t) → IsFree r n t
+free_tells : (r : Registry) (n t : ℕ) → IsSound r → Turns.advance_answer r n ≡ Ok (Freed t) → IsFree r n t
 free_tells r n t on is =
-    let at = stage_tells r n (retired_slot r n) (Freed t) is in
-    let own : at.0 ≡ t = (freed_tells at.0 t (least_below (has_section r n) r.settings.cpus) (least_below (has_passive r n) r.settings.cpus) (held_count r n) at.2).3 in
-    let retired = retired_tells (has_ended r.model.history n) (slot_of r n) at.0 at.1 in
+    let at = stage_tells r n (Turns.retired_slot r n) (Freed t) is in
+    let own : at.0 ≡ t = (freed_tells at.0 t (least_below (Turns.has_section r n) r.settings.cpus) (least_below (Turns.has_passive r n) r.settings.cpus) (Turns.held_count r n) at.2).3 in
+    let retired = retired_tells (has_ended r.model.history n) (Turns.slot_of r n) at.0 at.1 in
     let end = some_from (end_of r.model.history n) retired.0 in
     let ends : EndsAt r.model.history n end.0 = end_tells r.model.history n end.0 end.1 in
-    let found = least_some (λ u. is_this n (r.model.occupants u)) r.settings.slots at.0 retired.1 in
+    let found = least_some (λ u. Turns.is_this n (r.model.occupants u)) r.settings.slots at.0 retired.1 in
     record {
       position = end.0;
       ends = ends;
       occupant = ap r.model.occupants (sym own) ∙ is_this_tells n (r.model.occupants at.0) found.1;
-      unheld = unheld_from r n t end.0 on end.1 ends (subst (λ (u : ℕ). first_obstacle r n u ≡ Freed t) own at.2);
+      unheld = unheld_from r n t end.0 on end.1 ends (subst (λ (u : ℕ). Turns.first_obstacle r n u ≡ Freed t) own at.2);
     }
 
 -- What freeing keeps
@@ -278,7 +279,7 @@ vacate_keeps z m labels t n p keeps on at ends unheld kept =
 
 -- Freed
 
-freed_by : (r : Registry) (n t : ℕ) (o : Option ℕ) → IsSound r → IsFree r n t → r.model.keeps t ≡ o → IsLawfulTurn r (with_freed r t o)
+freed_by : (r : Registry) (n t : ℕ) (o : Option ℕ) → IsSound r → IsFree r n t → r.model.keeps t ≡ o → IsLawfulTurn r (Turns.with_freed r t o)
 freed_by r n t None on free at = (
   vacate_keeps r.settings r.model r.local_labels t n free.position r.model.keeps on free.occupant free.ends free.unheld (λ u d is. is),
   Goes_on r.model _ Stays (Vacates t n free.position free.occupant free.ends free.unheld at),
@@ -289,20 +290,20 @@ freed_by r n t (Some d) on free at =
     let given : Model = record (with_locals m d (m.locals d + 1)) { occupants = put m.occupants t None; keeps = put m.keeps t None } in
     let more : put m.locals d (m.locals d + 1) d ≡ m.locals d + 1 = put_here m.locals d (m.locals d + 1) in (
       vacate_keeps r.settings r.model r.local_labels t n free.position (put m.keeps t None) on free.occupant free.ends free.unheld (λ u k is. (put_none m.keeps t u k is).1),
-      two_steps m given (with_locals given d (given.locals d - 1)) (with_freed r t (Some d)).model (Gives_up t n free.position d free.occupant free.ends free.unheld at)
+      two_steps m given (with_locals given d (given.locals d - 1)) (Turns.with_freed r t (Some d)).model (Gives_up t n free.position d free.occupant free.ends free.unheld at)
           (Uncounts d (omega (arith, more)))
           (assumption (put_is (put m.locals d (m.locals d + 1)) m.locals d (put m.locals d (m.locals d + 1) d - 1) (omega (arith, more)) (λ j off. put_other m.locals d (m.locals d + 1) j off))),
       refl,
     )
 
-pub staged_lawful : (r : Registry) (n : ℕ) (stage : Stage) → IsSound r → advance_answer r n ≡ Ok stage → IsLawfulTurn r (after_stage r n stage)
+pub staged_lawful : (r : Registry) (n : ℕ) (stage : Stage) → IsSound r → Turns.advance_answer r n ≡ Ok stage → IsLawfulTurn r (Turns.after_stage r n stage)
 staged_lawful r n (Local k) on is = (on, Stays, refl)
 staged_lawful r n (Freed t) on is = freed_by r n t (r.model.keeps t) on (free_tells r n t on is) refl
 staged_lawful r n _ on is = idle_turn r on
 
-pub advance_turn : (r : Registry) (n : ℕ) → IsSound r → IsLawfulTurn r (after_advance r n)
-advance_turn r n on = ok_turn r (advance_answer r n) (after_stage r n) on (λ stage is. staged_lawful r n stage on is)
+pub advance_turn : (r : Registry) (n : ℕ) → IsSound r → IsLawfulTurn r (Turns.after_advance r n)
+advance_turn r n on = ok_turn r (Turns.advance_answer r n) (Turns.after_stage r n) on (λ stage is. staged_lawful r n stage on is)
 
-pub destroyed_by : (r : Registry) (n : ℕ) (b : Bool) → IsSound r → IsLawfulTurn r (if b then r else after_advance r n)
+pub destroyed_by : (r : Registry) (n : ℕ) (b : Bool) → IsSound r → IsLawfulTurn r (if b then r else Turns.after_advance r n)
 destroyed_by r n true on = idle_turn r on
 destroyed_by r n false on = advance_turn r n on
