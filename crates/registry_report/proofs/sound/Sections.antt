@@ -12,7 +12,6 @@ use Rattle.protocol.proofs.keeps.SectionKeeps.{some_from}
 use Rattle.protocol.proofs.Either.{either}
 use Rattle.registry_report.specs.Common.{Hitch, NotInside, Registry, IsSound, IsSoundModel, IsLawfulTurn, LabelTaken, NoLabel, HasSlot}
 use Rattle.registry_report.specs.Turns
-use Rattle.registry_report.specs.Turns as answers
 use Rattle.registry_report.proofs.Lookups.{lookup_is}
 use Rattle.registry_report.proofs.sound.Turns.{put_capped, put_cases, put_none, same_ok, still_there, then_ok, added_counts, dropped_counts, hitched_ok, labelled_counts, not_ok}
 
@@ -189,14 +188,14 @@ count_keeps z m labels x n on free has =
     (λ off. on.labelled y k (sym off.1 ∙ is)) in
     assumption (added_counts labels m.locals x n free on.counted)
 
-counted_tells : (r : Registry) (c : ℕ) (o : Option Entry) (n : ℕ) → answers.count_of_found r c o ≡ Ok n → (e : Entry) × (o ≡ Some e) × (e.number ≡ n)
+counted_tells : (r : Registry) (c : ℕ) (o : Option Entry) (n : ℕ) → Turns.count_of_found r c o ≡ Ok n → (e : Entry) × (o ≡ Some e) × (e.number ≡ n)
 counted_tells r c None n is = absurd (not_ok NothingFound n is)
 counted_tells r c (Some e) n is = (e, refl, same_ok {E = Refusal} e.number n (unless_ok (Turns.why_uncounted r c e.number) (Ok e.number) n is).1)
 
 pub count_lawful : (r : Registry) (c x n : ℕ) → IsSound r → Turns.count_answer r c x ≡ Ok n → IsLawfulTurn r (Turns.with_one_counted r c x n)
 count_lawful r c x n on is =
-    let free = free_ok (r.local_labels x) (Turns.command_answer (answers.count_of_found r c (r.model.found c))) n is in
-    let found = counted_tells r c (r.model.found c) n (hitched_ok (answers.count_of_found r c (r.model.found c)) n free.1) in
+    let free = free_ok (r.local_labels x) (Turns.command_answer (Turns.count_of_found r c (r.model.found c))) n is in
+    let found = counted_tells r c (r.model.found c) n (hitched_ok (Turns.count_of_found r c (r.model.found c)) n free.1) in
     let e : Entry = found.0 in
     let was = on.last_found c e found.1 in
     let has : HasSlot r.model.history r.model.occupants e.number = record { entry = e; attached = was.2.attached; numbered = refl; occupant = on.held c was.0 e was.1 was.2 } in
