@@ -89,7 +89,9 @@ enum kupaldiz_result {
 	KUPALDIZ_OTHER_LIMITS = 78,
 	/* Only calls of kupaldiz_waiting.h return these two. */
 	KUPALDIZ_NO_CPU = 79,		/* every CPU is another thread's. */
-	KUPALDIZ_NO_THREAD = 81		/* no thread could be started. */
+	KUPALDIZ_NO_THREAD = 81,	/* no thread could be started. */
+	/* Only calls of kupaldiz_table.h return this. */
+	KUPALDIZ_CROWDED = 82		/* the name's part of the table is full, the table isn't. */
 };
 
 /*
