@@ -153,6 +153,6 @@ $(NETBSD_CHECKED:%=check-netbsd-%): check-netbsd-%: netbsd-programs
 clean:
 	rm -f $(PROGRAMS:%=$(OUT)/%) $(OUT)/checked $(CHECKING:%=$(OUT)/checked-%) $(SANITIZED:%=$(OUT)/sanitized-%) $(STRESSES) $(RACED:%=$(OUT)/raced-%) $(ORDERED:%=$(OUT)/ordered-%)
 	rm -f $(filter-out $(ARCHIVE) $(OUT)/libkupaldiz.proved,$(wildcard $(OUT)/libkupaldiz*))
-	rm -rf $(OUT)/installed-waiting $(OUT)/installed-check $(OUT)/installed-netbsd $(OUT)/installed-explorer
+	rm -rf $(OUT)/installed-waiting $(OUT)/installed-table $(OUT)/installed-check $(OUT)/installed-netbsd $(OUT)/installed-explorer
 
 .PHONY: all sanitized stresses ordered clean check check-limits netbsd-programs $(CHECKED:%=check-%) $(NETBSD_CHECKED:%=check-netbsd-%)

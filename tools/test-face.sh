@@ -51,14 +51,14 @@ guarded_rust() {
 
 # The programs of the crate's tests, as cargo names them where it isn't told to be quiet; except those that run the compiler or themselves, or look at types.
 rust_tests() {
-    (cd rust && CARGO_TERM_QUIET=false RUSTFLAGS=$(tests/watching.sh) cargo test --offline --no-run --test '*' 2>&1) | grep -oE '/[^ ()]*/(carried|face|foreign|leaving|loans|memory|model|together)-[0-9a-f]+'
+    (cd rust && CARGO_TERM_QUIET=false RUSTFLAGS=$(tests/watching.sh) cargo test --offline --no-run --test '*' 2>&1) | grep -oE '/[^ ()]*/(carried|face|foreign|leaving|loans|memory|model|table|together)-[0-9a-f]+'
 }
 
 # Each of them under valgrind, except what forgets on purpose; the stress with fewer changes.
 guarded_tests() {
     local program programs
     programs=$(rust_tests)
-    [ "$(wc -w <<<"$programs")" -eq 8 ] || return 1
+    [ "$(wc -w <<<"$programs")" -eq 9 ] || return 1
     for program in $programs; do
         KUPALDIZ_CHANGES=1 guarded_rust "$program" --test-threads=1 --skip forgotten --skip had_again --skip static || return 1
     done
@@ -77,6 +77,7 @@ rust_examples=(
     "connections: 20 connections were closed, and 1000 messages sent"
     "shutdown: closed, and 3 devices were written"
     "tasks: 400 tasks, and the driver came back: 1000"
+    "table: 10000 connections were closed, and given back"
 )
 
 # says_last TEXT COMMAND..: the command ends well, and its last line is this.

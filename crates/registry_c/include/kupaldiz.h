@@ -90,8 +90,8 @@ enum kupaldiz_result {
 	/* Only calls of kupaldiz_waiting.h return these two. */
 	KUPALDIZ_NO_CPU = 79,		/* every CPU is another thread's. */
 	KUPALDIZ_NO_THREAD = 81,	/* no thread could be started. */
-	/* Only calls of kupaldiz_table.h return this. */
-	KUPALDIZ_CROWDED = 82		/* the name's part of the table is full, the table isn't. */
+	/* the name's registry is full, and the table that chose it isn't. */
+	KUPALDIZ_CROWDED = 82
 };
 
 /*
