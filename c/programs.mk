@@ -6,6 +6,8 @@ WRAP = -Wl,--wrap=malloc,--wrap=realloc,--wrap=free
 
 # The modules of kupaldiz_waiting.h, with what they share.
 WAITING = $(wildcard c/src/waiting/*.[ch])
+# Those of kupaldiz_table.h, which are over them.
+TABLE = $(wildcard c/src/table/*.[ch]) c/include/kupaldiz_table.h
 
 # What they share: examples, and tests.
 SHARED_HEADERS = c/examples/example.h c/tests/client.h c/examples/expect.h
@@ -15,7 +17,9 @@ vpath %.c c/examples c/tests
 
 PROGRAMS = smallest walk packet shared misuse allocs changes built $(OVER_WAITING) turns history largest names forwarder device_switch $(PROGRAMS_$(PROCESSOR)) $(BENCHED)
 # Tests of kupaldiz_waiting.h: each is compiled with it.
-OVER_WAITING = deferred later late together interrupted reclaims lent replaces
+OVER_WAITING = deferred later late together interrupted reclaims lent replaces $(OVER_TABLE)
+# An example of kupaldiz_table.h and its tests.
+OVER_TABLE = table table_calls table_model
 # They read registers of x86-64.
 PROGRAMS_x86_64 = recalls
 # A release's source has no bench.
@@ -41,6 +45,8 @@ $(OUT)/allocs: c/src/heap.c
 $(addprefix $(OUT)/,history largest allocs recalls): c/tests/wrapped_heap.h
 $(addprefix $(OUT)/,history largest allocs): LINK = $(WRAP)
 $(addprefix $(OUT)/,shared forwarder device_switch turns $(OVER_WAITING) $(BENCHED)): $(WAITING) c/include/kupaldiz_waiting.h
+$(foreach way,$(OUT)/ $(OUT)/sanitized- $(OUT)/raced-,$(addprefix $(way),$(OVER_TABLE))): $(TABLE)
+$(OUT)/table_calls $(OUT)/sanitized-table_calls: LINK = -Wl,--wrap=getrandom,--wrap=malloc,--wrap=calloc,--wrap=aligned_alloc,--wrap=pthread_key_create
 $(OUT)/forwarder $(OUT)/device_switch: c/examples/workers.h
 $(OUT)/recalls: STRICT = -std=c11 -D_GNU_SOURCE -mno-red-zone $(WARNINGS)
 $(OUT)/recalls: LINK = -Wl,--wrap=malloc
@@ -69,7 +75,7 @@ $(OUT)/checked $(CHECKING:%=$(OUT)/checked-%): c/src/check.c c/src/records.h $(M
 # history is brief without an allocator of its own, which the sanitizers' would fight.
 SANITIZED = smallest walk packet shared misuse built history names forwarder device_switch $(WAITING_SANITIZED)
 # The address sanitizer takes the stack of a cancelled thread for one in use.
-WAITING_SANITIZED = reclaims lent replaces
+WAITING_SANITIZED = reclaims lent replaces $(OVER_TABLE)
 
 sanitized: $(SANITIZED:%=$(OUT)/sanitized-%)
 
@@ -94,7 +100,7 @@ when_early = -DFREE_TOO_EARLY
 when_unperformed = -DFREE_BEFORE_PERFORMED
 
 # The edges of the archive are told to the thread sanitizer by the program. It knows no thread after a fork.
-RACED = reclaims interrupted replaces
+RACED = reclaims interrupted replaces table_model
 
 stresses: $(STRESSES) $(RACED:%=$(OUT)/raced-%)
 
@@ -122,6 +128,7 @@ CHECKED = smallest walk packet shared checked misuse built turns $(OVER_WAITING)
 words_history = 300000
 words_together = 20
 words_replaces = 1000
+words_table_model = 2000
 words_forwarder = 200
 words_device_switch = 20
 NETBSD_CHECKED = threads drivers model kernel
@@ -146,6 +153,6 @@ $(NETBSD_CHECKED:%=check-netbsd-%): check-netbsd-%: netbsd-programs
 clean:
 	rm -f $(PROGRAMS:%=$(OUT)/%) $(OUT)/checked $(CHECKING:%=$(OUT)/checked-%) $(SANITIZED:%=$(OUT)/sanitized-%) $(STRESSES) $(RACED:%=$(OUT)/raced-%) $(ORDERED:%=$(OUT)/ordered-%)
 	rm -f $(filter-out $(ARCHIVE) $(OUT)/libkupaldiz.proved,$(wildcard $(OUT)/libkupaldiz*))
-	rm -rf $(OUT)/installed-waiting $(OUT)/installed-check $(OUT)/installed-netbsd $(OUT)/installed-explorer
+	rm -rf $(OUT)/installed-waiting $(OUT)/installed-table $(OUT)/installed-check $(OUT)/installed-netbsd $(OUT)/installed-explorer
 
 .PHONY: all sanitized stresses ordered clean check check-limits netbsd-programs $(CHECKED:%=check-%) $(NETBSD_CHECKED:%=check-netbsd-%)

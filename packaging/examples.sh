@@ -18,6 +18,7 @@ umask 022
 # put FILE AS: the file with the names under which the headers are installed.
 put() {
     sed -E -e 's|#include "kupaldiz\.h"|#include <kupaldiz.h>|' -e 's|#include "kupaldiz_waiting\.h"|#include <kupaldiz_waiting.h>|' \
+        -e 's|#include "kupaldiz_table\.h"|#include <kupaldiz_table.h>|' \
         -e 's,#include "\.\./\.\./(c|netbsd)/(examples|tests)/,#include ",' -e 's|#include "\.\./explorer\.h"|#include "explorer.h"|' "$1" >"$to/$2"
 }
 
@@ -29,7 +30,7 @@ remove() {
 for name in Makefile CMakeLists.txt; do
     "$put" "c/examples/$name" "$name"
 done
-for name in smallest walk packet shared forwarder device_switch; do
+for name in smallest walk packet shared forwarder device_switch table; do
     "$put" "c/examples/$name.c" "$name.c"
 done
 for name in example expect workers; do

@@ -1,5 +1,5 @@
 # The libraries that are installed: `make install PREFIX=.. DESTDIR=..` and `make uninstall` with the same words. libkupaldiz is the proved archive together
-# with the modules of kupaldiz_waiting.h, libkupaldiz_check the checking build's part, libkupaldiz_netbsd the manual pages' own names; what is built lies in
+# with the modules of kupaldiz_waiting.h and kupaldiz_table.h, libkupaldiz_check the checking build's part, libkupaldiz_netbsd the manual pages' own names; what is built lies in
 # out/. The version stands in kupaldiz.h alone.
 
 PREFIX = /usr/local
@@ -46,7 +46,7 @@ NETBSD_SONAME = libkupaldiz_netbsd.so.$(ABI)
 NETBSD_SHARED = libkupaldiz_netbsd.so.$(VERSION)
 
 # What is installed beside the proved face, in the folder of headers itself. The pages' names have a folder of their own.
-C_HEADERS = kupaldiz_waiting.h kupaldiz_check.h kupaldiz_tsan.h
+C_HEADERS = kupaldiz_waiting.h kupaldiz_table.h kupaldiz_check.h kupaldiz_tsan.h
 
 # The headers of the pages' names: those that the pages name, in sys and net, and what these are made of. What the layer is built from.
 NETBSD_FOLDERS = kupaldiz sys net
@@ -57,8 +57,8 @@ NETBSD_OBJECTS = $(patsubst netbsd/src/%.c,$(OUT)/installed-netbsd/%.o,$(wildcar
 pages:
 	$(if $(wildcard tools/header-pages.py),tools/header-pages.py make && netbsd/pages.py write)
 
-# kupaldiz(3) and kupaldiz_waiting(3), and the calls that each names at its head, each of which gets a page that leads there.
-PAGES = kupaldiz kupaldiz_waiting
+# kupaldiz(3), kupaldiz_waiting(3) and kupaldiz_table(3), and the calls that each names at its head, each of which gets a page that leads there.
+PAGES = kupaldiz kupaldiz_waiting kupaldiz_table
 named_by = $(filter-out $(1),$(shell sed -n 's/^\.Nm \(kupaldiz_[a-z_]*\).*/\1/p' man/$(1).3 | sort -u))
 
 # The pages of the pages' names: each call that one of them names gets a page that leads there, except kupaldiz_cpu, whose name a page has.
@@ -79,11 +79,18 @@ $(WAITING_OBJECTS): $(OUT)/installed-waiting/%.o: c/src/waiting/%.c $(WAITING_MA
 	mkdir -p $(@D)
 	$(CC) $(COMPILED) -Ic/include -c -o $@ $<
 
-$(OUT)/libkupaldiz.a: $(ARCHIVE) $(WAITING_OBJECTS)
+# The checking build has none of it: it is over the calls themselves.
+TABLE_OBJECTS = $(patsubst c/src/table/%.c,$(OUT)/installed-table/%.o,$(wildcard c/src/table/*.c))
+
+$(TABLE_OBJECTS): $(OUT)/installed-table/%.o: c/src/table/%.c $(wildcard c/src/table/*.h) c/include/kupaldiz_table.h $(WAITING_MADE_OF) | $(OUT)
+	mkdir -p $(@D)
+	$(CC) $(COMPILED) -Ic/include -c -o $@ $<
+
+$(OUT)/libkupaldiz.a: $(ARCHIVE) $(WAITING_OBJECTS) $(TABLE_OBJECTS)
 	rm -rf $@ $(OUT)/installed-archive
 	mkdir -p $(OUT)/installed-archive
 	cd $(OUT)/installed-archive && $(AR) x $(if $(filter /%,$(ARCHIVE)),$(ARCHIVE),"$$OLDPWD"/$(ARCHIVE))
-	$(AR) rcsD $@ $(OUT)/installed-archive/*.o $(WAITING_OBJECTS)
+	$(AR) rcsD $@ $(OUT)/installed-archive/*.o $(WAITING_OBJECTS) $(TABLE_OBJECTS)
 
 # The calls that wait are in it once more, by names of their own: these are told, too.
 $(CHECKED_OBJECTS): $(OUT)/installed-check/%.o: c/src/waiting/%.c

@@ -38,7 +38,7 @@ $(shell $(TOP)netbsd/named.sh)
 # What is made of each call of the headers. In a release it is.
 MADE_OF_CALLS = $(addprefix $(TOP)c/,include/kupaldiz_check.h include/kupaldiz_tsan.h src/texts.h src/checked.h)
 ifneq ($(wildcard $(TOP)tools/call-headers.py),)
-$(if $(shell find $(TOP)tools/call-headers.py $(TOP)tools/header-pages.py $(HEADER)/kupaldiz.h $(TOP)c/include/*.in $(TOP)c/include/kupaldiz_waiting.h \
+$(if $(shell find $(TOP)tools/call-headers.py $(TOP)tools/header-pages.py $(HEADER)/kupaldiz.h $(TOP)c/include/*.in $(TOP)c/include/kupaldiz_waiting.h $(TOP)c/include/kupaldiz_table.h \
     -newer $(TOP)c/src/checked.h 2>&1),$(shell $(TOP)tools/call-headers.py make))
 endif
 

@@ -1,5 +1,5 @@
 #!/usr/bin/env -S python3 -B
-"""Makes what is of each call of kupaldiz.h and kupaldiz_waiting.h, from these headers.
+"""Makes what is of each call of kupaldiz.h, kupaldiz_waiting.h and kupaldiz_table.h, from these.
 
     tools/call-headers.py make      writes c/include/kupaldiz_check.h and kupaldiz_tsan.h, from the
                                     frames beside them that end in .in, and c/src/texts.h and
@@ -29,7 +29,10 @@ from parts import ROOT
 pages = importlib.import_module("header-pages")
 
 HEADERS = {"kupaldiz.h": "crates/registry_c/include/kupaldiz.h",
-           "kupaldiz_waiting.h": "c/include/kupaldiz_waiting.h"}
+           "kupaldiz_waiting.h": "c/include/kupaldiz_waiting.h",
+           "kupaldiz_table.h": "c/include/kupaldiz_table.h"}
+# Of these the checking build has nothing.
+UNCHECKED = ("kupaldiz_table.h",)
 HANDLE = re.compile(r"struct kupaldiz_(keeper|cpu|passive|local) \*")
 LOCAL = re.compile(r"\blocal\b")
 ACQUIRED = re.compile(r"^struct kupaldiz_(?:passive|local) \*(\w+)$")
@@ -40,13 +43,15 @@ BY_HAND = (OPEN, *(f"kupaldiz_{it}" for it in ("close", "copy", "release", "copy
 # What orders memory. Before a call what was written is shown, or is let go of. After one that is
 # done what was shown is seen, or nobody uses it any more.
 BEFORE = {
-    "KUPALDIZ_SHOWN": "attach attach_iface replace replace_iface",
+    "KUPALDIZ_SHOWN": "attach attach_iface replace replace_iface table_attach table_replace",
     "KUPALDIZ_LET_GO": "exit release try_release_local release_local_locked forget_local "
-                       "release_local close",
+                       "release_local close table_release table_release_local table_close",
 }
 AFTER = {
-    "KUPALDIZ_SHOWN": "look_up get find enter_find walk acquire get_local acquire_local",
-    "KUPALDIZ_LET_GO": "destroy destroy_wait perform_turn perform_wait close",
+    "KUPALDIZ_SHOWN": "look_up get find enter_find walk acquire get_local acquire_local "
+                      "table_look_up table_get table_get_local",
+    "KUPALDIZ_LET_GO": "destroy destroy_wait perform_turn perform_wait close table_destroy "
+                       "table_perform table_close",
 }
 # What is looked at before a call of kupaldiz_waiting.h: the functions are check.c's.
 TAKES = "judge_interlock(interlock);", "judge_may_wait(interlock);"
@@ -235,7 +240,7 @@ def texts(_):
 
 
 def functions(_):
-    return "\n".join(part("functions", header) for header in HEADERS)
+    return "\n".join(part("functions", header) for header in HEADERS if header not in UNCHECKED)
 
 
 MADE = {"c/include/kupaldiz_check.h": framed, "c/include/kupaldiz_tsan.h": framed,

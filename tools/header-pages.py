@@ -23,7 +23,8 @@ import textwrap
 
 from parts import ROOT, counted
 
-PAGES = {"kupaldiz": "crates/registry_c/include/kupaldiz.h", "kupaldiz_waiting": "c/include/kupaldiz_waiting.h"}
+PAGES = {"kupaldiz": "crates/registry_c/include/kupaldiz.h", "kupaldiz_waiting": "c/include/kupaldiz_waiting.h",
+         "kupaldiz_table": "c/include/kupaldiz_table.h"}
 WIDTH = 80
 
 GROUP = re.compile(r"/\* ---- (.*?) ---- \*/")

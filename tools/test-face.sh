@@ -51,14 +51,14 @@ guarded_rust() {
 
 # The programs of the crate's tests, as cargo names them where it isn't told to be quiet; except those that run the compiler or themselves, or look at types.
 rust_tests() {
-    (cd rust && CARGO_TERM_QUIET=false RUSTFLAGS=$(tests/watching.sh) cargo test --offline --no-run --test '*' 2>&1) | grep -oE '/[^ ()]*/(carried|face|foreign|leaving|loans|memory|model|together)-[0-9a-f]+'
+    (cd rust && CARGO_TERM_QUIET=false RUSTFLAGS=$(tests/watching.sh) cargo test --offline --no-run --test '*' 2>&1) | grep -oE '/[^ ()]*/(carried|face|foreign|leaving|loans|memory|model|table|together)-[0-9a-f]+'
 }
 
 # Each of them under valgrind, except what forgets on purpose; the stress with fewer changes.
 guarded_tests() {
     local program programs
     programs=$(rust_tests)
-    [ "$(wc -w <<<"$programs")" -eq 8 ] || return 1
+    [ "$(wc -w <<<"$programs")" -eq 9 ] || return 1
     for program in $programs; do
         KUPALDIZ_CHANGES=1 guarded_rust "$program" --test-threads=1 --skip forgotten --skip had_again --skip static || return 1
     done
@@ -77,6 +77,7 @@ rust_examples=(
     "connections: 20 connections were closed, and 1000 messages sent"
     "shutdown: closed, and 3 devices were written"
     "tasks: 400 tasks, and the driver came back: 1000"
+    "table: 10000 connections were closed, and given back"
 )
 
 # says_last TEXT COMMAND..: the command ends well, and its last line is this.
@@ -105,9 +106,13 @@ test_page() {
     check "the page: mandoc -T lint says nothing" page_lints
     check "the page names the header's calls" names "$header" "$page"
     check "the page of the waits names their calls" names c/include/kupaldiz_waiting.h man/kupaldiz_waiting.3
+    check "the page of the table names its calls" names c/include/kupaldiz_table.h man/kupaldiz_table.3
     check "no line of the headers has more than 100 columns" header_is_narrow
     check "the header alone, in four C standards" header_alone kupaldiz.h "${warnings[@]}" -Icrates/registry_c/include
     check "that of the waits" header_alone kupaldiz_waiting.h "${warnings[@]}" -Icrates/registry_c/include -Ic/include
+    check "that of the table" header_alone kupaldiz_table.h "${warnings[@]}" -Icrates/registry_c/include -Ic/include
+    check "that of the table in the checking build" header_alone kupaldiz_table.h "${warnings[@]}" -DKUPALDIZ_CHECK -Icrates/registry_c/include -Ic/include
+    check "that of the table with the thread sanitizer" header_alone kupaldiz_table.h "${warnings[@]}" -fsanitize=thread -Icrates/registry_c/include -Ic/include
     check "both in the checking build" header_alone kupaldiz_waiting.h "${warnings[@]}" -DKUPALDIZ_CHECK -Icrates/registry_c/include -Ic/include
     check "both with the thread sanitizer" header_alone kupaldiz_waiting.h "${warnings[@]}" -fsanitize=thread -Icrates/registry_c/include -Ic/include
     check "an answer that has to be looked at, and isn't, is warned of" warned unused-result '(void)entry; kupaldiz_enter(cpu);'
@@ -117,7 +122,7 @@ test_page() {
 }
 
 test_c() {
-    programs C: "" "$out/" smallest walk packet 'shared 2000' misuse allocs built turns deferred later late together interrupted reclaims lent replaces history \
+    programs C: "" "$out/" smallest walk packet 'shared 2000' misuse allocs built turns deferred later late together interrupted reclaims lent replaces table table_calls 'table_model 5000' history \
         'largest 30000 1 long' names recalls forwarder device_switch 'speed 2 8 1000' 'changes 20' 'changes 20 2 4' 'changes 20 64 255' checked
     programs C: " in the checking build" "$out/checked-" smallest walk packet 'shared 500' 'forwarder 200' 'device_switch 20' 'together 20'
     counted "C: programs compiled for other limits" packaging/other-limits.sh "${header%/*}" "$out/libkupaldiz_proved.a"
@@ -128,7 +133,7 @@ test_c() {
 # The same programs, where each access of the client's, or of all, is watched.
 test_watched() {
     programs C: " under valgrind" "watched all $out/" smallest walk packet 'shared 20' misuse built interrupted reclaims lent 'replaces 500' 'history 1000 1 small' names
-    programs C: " with sanitizers" "$out/sanitized-" smallest walk misuse packet 'shared 500' built reclaims lent 'replaces 5000' 'history 100000' names forwarder device_switch
+    programs C: " with sanitizers" "$out/sanitized-" smallest walk misuse packet 'shared 500' built reclaims lent 'replaces 5000' 'table 2000' table_calls 'table_model 2000' 'history 100000' names forwarder device_switch
 }
 
 # Objects of the heap behind entries, freed once nobody holds them, under three checkers; each of them catches what frees a turn too early.
@@ -139,6 +144,7 @@ test_heap() {
     check "C: reclaims with the thread sanitizer" "$out/raced-reclaims"
     check "C: interrupted with the thread sanitizer" "$out/raced-interrupted"
     check "C: replaces with the thread sanitizer" "$out/raced-replaces" 5000
+    check "C: table_model with the thread sanitizer" "$out/raced-table_model" 2000
     check "C: together under valgrind" watched all "$out/together-none-right" 5
     for when in early unperformed; do
         check "C: freed $when: the address sanitizer sees it" catches heap-use-after-free "$out/together-address-$when" 200

@@ -104,7 +104,7 @@ in_place() {
 # The page of each call is found by its name, and is the one that names it.
 pages_are_found() {
     local call page
-    for call in $(packaging/calls-of.sh "$stage$prefix"/include/kupaldiz{,_limits,_waiting}.h | grep -v '^kupaldiz_for_[0-9]'); do
+    for call in $(packaging/calls-of.sh "$stage$prefix"/include/kupaldiz{,_limits,_waiting,_table}.h | grep -v '^kupaldiz_for_[0-9]'); do
         page=$(man -M "$stage$prefix/share/man" -w 3 "$call") && grep -qE "^\.Nm $call( |\$)" "$page" || { echo "no page $call(3)"; return 1; }
     done
 }
@@ -112,7 +112,7 @@ pages_are_found() {
 # The words that a distribution gives reach the compiler and the linker.
 flags_are_taken() {
     local library
-    rm -rf "$top"/out/installed-{netbsd,explorer,waiting,check} "$top"/out/libkupaldiz{,_check,_netbsd,_explorer}.{a,so.*}
+    rm -rf "$top"/out/installed-{netbsd,explorer,waiting,table,check} "$top"/out/libkupaldiz{,_check,_netbsd,_explorer}.{a,so.*}
     echo 'static const char of_cppflags[] __attribute__((used, section("seen"))) = "CPPFLAGS";' >"$room/seen.h"
     made library CPPFLAGS="-include $room/seen.h" CFLAGS='-O1 -frecord-gcc-switches' LDFLAGS=-Wl,--build-id=0xfeedfeed || return
     for library in "$top"/out/libkupaldiz{,_netbsd,_explorer}.so."$(version)"; do
@@ -131,7 +131,7 @@ wanted() {
         echo "l 777 $me $libdir/$library.so -> $library.so.$abi"
     done
     for file in "$libdir"/libkupaldiz_check.a "$libdir"/pkgconfig/kupaldiz{,-check,-netbsd,-explorer}.pc "$libdir"/cmake/kupaldiz/kupaldizConfig{,Version}.cmake \
-        "$prefix"/include/kupaldiz{{,_limits,_waiting,_check,_tsan}.h,/explorer.h} "$prefix"/share/doc/kupaldiz/VERSIONS.md; do
+        "$prefix"/include/kupaldiz{{,_limits,_waiting,_table,_check,_tsan}.h,/explorer.h} "$prefix"/share/doc/kupaldiz/VERSIONS.md; do
         echo "f 644 $me $file"
     done
     (cd "$top/netbsd/include" && find . -name '*.h') | sed "s|^\.|f 644 $me $prefix/include/kupaldiz/netbsd|"

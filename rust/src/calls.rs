@@ -34,6 +34,7 @@ constants! {
     OTHER_LIMITS = 78;
     NO_CPU = 79;
     NO_THREAD = 81;
+    CROWDED = 82;
     INTERFACE = 1;
     DRIVER = 2;
     GRACE = 0;

@@ -23,6 +23,9 @@ pub enum RegistryError {
     NameTaken,
     /// No slot is vacant.
     NoSlot,
+    /// The registry of a [`Table`](crate::Table) that the name chooses is full, and the table
+    /// isn't.
+    Crowded,
     /// No more attaches: each takes room for itself and its detach, of
     /// [`Settings::changes`](crate::Settings::changes). All other calls go on.
     HistoryFull,
@@ -99,6 +102,7 @@ pub enum AttachError {
     NameTaken,
     NotFound,
     NoSlot,
+    Crowded,
     HistoryFull,
 }
 
@@ -238,6 +242,7 @@ impl From<AttachError> for RegistryError {
             AttachError::NameTaken => Self::NameTaken,
             AttachError::NotFound => Self::NotFound,
             AttachError::NoSlot => Self::NoSlot,
+            AttachError::Crowded => Self::Crowded,
             AttachError::HistoryFull => Self::HistoryFull,
         }
     }
@@ -303,6 +308,7 @@ impl RegistryError {
             Self::BadName => ffi::BAD_NAME,
             Self::NameTaken => ffi::NAME_TAKEN,
             Self::NoSlot => ffi::NO_SLOT,
+            Self::Crowded => ffi::CROWDED,
             Self::HistoryFull => ffi::HISTORY_FULL,
             Self::NotFound => ffi::NOT_FOUND,
             Self::Inside => ffi::INSIDE,

@@ -44,6 +44,7 @@
 //! | change | [`Registry::attach`], [`attach_iface`](Registry::attach_iface), [`detach`](Registry::detach), [`detach_entry`](Registry::detach_entry), [`replace`](Registry::replace), [`replace_iface`](Registry::replace_iface) |
 //! | free | [`Retired::destroy`], or `.await`; [`Registry::retire`] and [`Registry::free_deferred`] return what is free by then |
 //! | end | [`Registry::drain`], then [`Registry::close`], or drop all handles |
+//! | have more than 255 entries | a [`Table`], which has these calls, and for a thread a [`TableThread`] |
 //!
 //! ```
 //! use kupaldiz::{DestroyError, Found, Holder, Registry, Settings};
@@ -199,6 +200,7 @@ mod seats;
 mod section;
 mod settings;
 mod shared;
+mod table;
 mod tasks;
 mod values;
 
@@ -215,4 +217,5 @@ pub use registry::{Drained, Registry};
 pub use retired::{Destroyed, Retired};
 pub use section::{Entries, Found, ReadGuard, Section};
 pub use settings::{version, Limits, Settings, LIMITS};
+pub use table::{Table, TableThread};
 pub use values::{Balance, Entry, Freed, Holder, Kind};

@@ -383,19 +383,34 @@ impl<T> Registry<T> {
             return Registry::close_beside(seats, pauses);
         }
         loop {
-            seats = match Arc::try_unwrap(seats) {
-                Ok(only) => match Arc::try_unwrap(only.into_shared()) {
-                    Ok(last) => {
-                        drop(last);
-                        return Ok(());
-                    }
-                    Err(shared) => Registry::of(shared).seats,
-                },
+            seats = match Registry::unshared(seats) {
+                Ok(_) => return Ok(()),
                 Err(seats) => seats,
             };
             if !pauses.another() {
                 seats.shared.end.closing.is_awaited.store(false, Ordering::SeqCst);
                 return Err(still_open(Registry { seats }));
+            }
+        }
+    }
+
+    /// The registry itself, if this is its only handle.
+    fn unshared(seats: Arc<Seats<T>>) -> Result<Shared<T>, Arc<Seats<T>>> {
+        let last = Arc::try_unwrap(Arc::try_unwrap(seats)?.into_shared());
+        last.map_err(|shared| Registry::of(shared).seats)
+    }
+
+    /// The same, once this is its only handle, as long as the patience lasts. No close of another
+    /// handle is waited for.
+    pub(crate) fn alone(self, pauses: &mut Pauses) -> Result<Shared<T>, Registry<T>> {
+        let mut seats = self.seats;
+        loop {
+            seats = match Registry::unshared(seats) {
+                Ok(shared) => return Ok(shared),
+                Err(seats) => seats,
+            };
+            if !pauses.another() {
+                return Err(Registry { seats });
             }
         }
     }

@@ -157,6 +157,11 @@ impl<T> Kept<T> {
         self.lives().count()
     }
 
+    /// The number of entries that are live or retired.
+    pub fn occupied(&self) -> usize {
+        self.rows.iter().filter(|row| row.state != State::Freed).count()
+    }
+
     /// The youngest live entry of those with a lower number.
     pub fn youngest_live(&self, number: u64) -> Option<Plain> {
         self.live(self.lives().map(|row| row.number).filter(|other| *other < number).max()?)

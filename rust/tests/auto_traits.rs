@@ -83,6 +83,8 @@ table! {
     Registry: Registry<T>,                               "b",    "b",    "purc";
     Cpu: Cpu<T>,                                         "b",    "",     "pu";
     CpuPool: CpuPool<T>,                                 "b",    "b",    "pur";
+    Table: Table<T>,                                     "b",    "b",    "pur";
+    TableThread: TableThread<T>,                         "b",    "",     "pu";
     LentCpu: LentCpu<'static, T>,                              "",     "",     "pu";
     Section: Section<'static, T>,                        "",     "",     "p";
     Found: Found<'static, 'static, T>,                   "",     "",     "pc";

@@ -7,7 +7,7 @@ use std::path::Path;
 use std::process::Command;
 
 /// How many wrong lines there are.
-const CASES: usize = 33;
+const CASES: usize = 37;
 
 /// Compiles a library whose source is in this folder, also of those that were compiled before. What
 /// the compiler says, or nothing where it takes it.

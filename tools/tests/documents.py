@@ -240,7 +240,7 @@ tools/call-headers.py make
 cat c/include/kupaldiz_check.h c/include/kupaldiz_tsan.h c/src/*.h >made
 ! grep -vxFf made wanted
 """
-CALL_HEADERS = {**real(FACE, "c/include/kupaldiz_*.in", "c/include/kupaldiz_waiting.h"),
+CALL_HEADERS = {**real(FACE, "c/include/kupaldiz_*.in", "c/include/kupaldiz_waiting.h", "c/include/kupaldiz_table.h"),
                 "c/src/check.c": "", "wanted": CALLED, "make": MAKES_CALLED}
 case("call-headers", ["call-headers.py", "header-pages.py", "parts.py"], CALL_HEADERS, ["./make"], [
     *of(FACE, ("another text", "no slot is vacant", "/* no slot is vacant. */", "/* no slot is free. */"),
@@ -250,7 +250,8 @@ case("call-headers", ["call-headers.py", "header-pages.py", "parts.py"], CALL_HE
                                          "@edges kupaldiz.h", "@edge kupaldiz.h")),
 ], counts=False)
 
-HEADERS = {**real(FACE, "c/include/kupaldiz_waiting.h", "man/kupaldiz*.3.in", "c/examples/packet.c", "c/examples/shared.c"), "wanted": WANTED, "make": MAKES}
+HEADERS = {**real(FACE, "c/include/kupaldiz_waiting.h", "c/include/kupaldiz_table.h", "man/kupaldiz*.3.in", "c/examples/packet.c", "c/examples/shared.c",
+                  "c/examples/table.c"), "wanted": WANTED, "make": MAKES}
 case("header-pages", ["header-pages.py", "parts.py"], HEADERS, ["./make"], [
     *of(FACE, ("another type of a parameter", '"uint64_t *depth"', "*cpu, uint64_t *depth)", "*cpu, uint32_t *depth)"),
         ("another summary of a call", "The number of open enters", "kupaldiz_depth - the number", "kupaldiz_depth - how many"),

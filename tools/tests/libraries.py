@@ -4,16 +4,17 @@ from .trees import Fault, case, of, real
 
 # A library is a text here: what nm says of it.
 NM = '#!/bin/sh\nfor library; do :; done\ncat "$library"\n'
-HEADERS = "include/kupaldiz.h", "c/include/kupaldiz_waiting.h"
+HEADERS = "include/kupaldiz.h", "c/include/kupaldiz_waiting.h", "c/include/kupaldiz_table.h"
 BUILT_FOR = "kupaldiz_for_64_cpus_255_slots_v0_1"
 SYMBOLS = {
     **real("packaging/symbols.sh", "packaging/calls-of.sh"),
     "include/kupaldiz.h": "enum kupaldiz_result kupaldiz_enter(struct kupaldiz_cpu *cpu);\nenum kupaldiz_result KUPALDIZ_BUILT_FOR(const struct kupaldiz_limits *limits);\n",
     "include/kupaldiz_limits.h": f"#define KUPALDIZ_BUILT_FOR\t{BUILT_FOR}\n",
     "c/include/kupaldiz_waiting.h": "size_t kupaldiz_waits(void);\n",
+    "c/include/kupaldiz_table.h": "void kupaldiz_table_walk(void);\n",
     "c/include/kupaldiz_check.h": "void kupaldiz_holders(void);\n#define kupaldiz_enter(cpu) 0\n#define kupaldiz_waits() 0\n",
     "out/libkupaldiz_check.a": "0000 T kupaldiz_holders\n0000 T kupaldiz_inner_waits\n",
-    "packaging/kupaldiz.map": "KUPALDIZ_0 {\n\tglobal:\n\t\tkupaldiz_enter;\n\t\tkupaldiz_for_*;\n\t\tkupaldiz_waits;\n\tlocal:\n\t\t*;\n};\n",
+    "packaging/kupaldiz.map": "KUPALDIZ_0 {\n\tglobal:\n\t\tkupaldiz_enter;\n\t\tkupaldiz_for_*;\n\t\tkupaldiz_table_walk;\n\t\tkupaldiz_waits;\n\tlocal:\n\t\t*;\n};\n",
     "netbsd/include/kupaldiz/cpu.h": "int cpu_number(void);\nvoid kupaldiz_point(void);\nint kupaldiz_from(void);\n",
     "netbsd/netbsd.map": "NETBSD_0 {\n\tglobal:\n\t\tkupaldiz_cpu_number;\n\t\tkupaldiz_for_*;\n};\n",
     "explorer/explorer.h": "void explorer_thread(const char *name);\n",
@@ -22,7 +23,7 @@ SYMBOLS = {
     "nm": NM,
 }
 LIBRARIES = {
-    "kupaldiz": ("kupaldiz_enter", BUILT_FOR, "kupaldiz_waits"),
+    "kupaldiz": ("kupaldiz_enter", BUILT_FOR, "kupaldiz_table_walk", "kupaldiz_waits"),
     "kupaldiz_netbsd": ("kupaldiz_cpu_number", "kupaldiz_for_7_cpus"),
     "kupaldiz_explorer": ("explorer_thread", "kupaldiz_cpu_number", "kupaldiz_from", "kupaldiz_point", "kupaldiz_for_7_cpus_of_explorer"),
 }

@@ -89,7 +89,9 @@ enum kupaldiz_result {
 	KUPALDIZ_OTHER_LIMITS = 78,
 	/* Only calls of kupaldiz_waiting.h return these two. */
 	KUPALDIZ_NO_CPU = 79,		/* every CPU is another thread's. */
-	KUPALDIZ_NO_THREAD = 81		/* no thread could be started. */
+	KUPALDIZ_NO_THREAD = 81,	/* no thread could be started. */
+	/* the name's registry is full, and the table that chose it isn't. */
+	KUPALDIZ_CROWDED = 82
 };
 
 /*

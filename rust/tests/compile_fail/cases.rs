@@ -3,7 +3,7 @@
 //! as the end of the line says.
 
 use kupaldiz::{Cpu, CpuPool, Found, Holder, LocalRef, Mapped, Name, PassiveRc, PassiveRef};
-use kupaldiz::{Patience, ReadGuard, Registry, RegistryError, Retired, Settings};
+use kupaldiz::{Patience, ReadGuard, Registry, RegistryError, Retired, Settings, Table, TableThread};
 use std::rc::Rc;
 
 /// What is found, listed or carried isn't used past its section, nor the section past its CPU; and
@@ -89,6 +89,30 @@ pub fn local(mut reference: LocalRef<String>, cpu: &Cpu<String>, other: &Cpu<u64
     let _ = (&mut reference, other.id());
     LocalRef::release(reference, cpu);
     Some(0)
+}
+
+/// A thread's references of a table are in use no longer than its handle; a local one is.
+pub fn table(table: Table<String>, thread: TableThread<String>, wm: &Name) -> Option<usize> {
+    let (passive, local) = (thread.get(wm).ok()?, table.get(wm).ok()?);
+    let guard = thread.read(wm).ok()?;
+    #[cfg(passive_past_its_thread)] // E0505
+    return Some((drop(thread), passive.len()).1);
+    #[cfg(read_past_its_thread)] // E0505
+    return Some((drop(thread), guard.len()).1);
+    #[cfg(table_used_past_its_close)] // E0382
+    let _ = table.close(Patience::Turns(1));
+    let held = (passive.len(), guard.len());
+    drop((passive, guard, table.len()));
+    drop(thread);
+    Some(held.0 + held.1 + local.len())
+}
+
+/// What a walk of a table meets isn't used past its visit.
+pub fn walk(thread: &TableThread<String>) -> Option<usize> {
+    let mut kept: Option<Found<'_, '_, String>> = None;
+    #[cfg(found_past_its_walk)] // E0521
+    thread.for_each(|found| kept = Some(found)).ok()?;
+    kept.take().map(|found| found.len())
 }
 
 /// A lookup by one call holds nothing, so what the entry carries isn't in what it returns.

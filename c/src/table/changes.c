@@ -1,0 +1,205 @@
+/* changes.c - attaches, replacements and detaches, under the lock of the name's registry */
+#include "inner.h"
+
+/* Frees those deferred entries of a registry that nothing holds. The caller has its lock. */
+static void free_deferred(struct registry *registry)
+{
+	if (kupaldiz_deferred_count(&registry->deferred) != 0)
+		kupaldiz_deferred_free(&registry->deferred, NULL);
+}
+
+/* The same in all registries. The caller has no lock. */
+static void free_all_deferred(struct table *table)
+{
+	for (size_t i = 0; i < table->choice.registries; i++) {
+		take(&table->registries[i]);
+		free_deferred(&table->registries[i]);
+		give(&table->registries[i]);
+	}
+}
+
+/* Counts one entry more, if there may be one more. */
+static bool count_one(struct table *table)
+{
+	if (atomic_fetch_add(&table->occupied, 1) < table->entries)
+		return true;
+	note_gone(table);
+	return false;
+}
+
+/* The same, once what can be freed was freed if the table is full. */
+static bool make_room(struct table *table)
+{
+	if (count_one(table))
+		return true;
+	if (atomic_load(&table->deferred) == 0)
+		return false;
+	free_all_deferred(table);
+	return count_one(table);
+}
+
+/* A change that needs a slot: an attach, or a replacement if `gone` is needed. */
+struct change {
+	const struct kupaldiz_name *name;
+	uint64_t value;
+	bool replaces;
+	struct kupaldiz_entry *gone;
+	struct kupaldiz_entry *made;
+};
+
+/* What the change returns while the table is full: what is wrong otherwise comes first. */
+static enum kupaldiz_result judge_full(struct kupaldiz_cpu *cpu, const struct change *change)
+{
+	uint64_t depth;
+	if (change->replaces && change->gone == NULL)
+		return KUPALDIZ_NULL;
+	enum kupaldiz_result result = kupaldiz_look_up(cpu, KUPALDIZ_ENTRY, change->name, NULL);
+	if (result != KUPALDIZ_DONE && result != KUPALDIZ_NOT_FOUND)
+		return result;
+	if (kupaldiz_depth(cpu, &depth) == KUPALDIZ_DONE && depth != 0)
+		return KUPALDIZ_INSIDE;
+	const bool is_taken = result == KUPALDIZ_DONE;
+	if (is_taken == change->replaces)
+		return KUPALDIZ_NO_SLOT;
+	return is_taken ? KUPALDIZ_NAME_TAKEN : KUPALDIZ_NOT_FOUND;
+}
+
+/* Makes the change in its registry, where deferred entries are freed first. */
+static enum kupaldiz_result change_in(struct registry *registry, struct kupaldiz_cpu *cpu,
+    const struct change *change)
+{
+	enum kupaldiz_result result;
+	take(registry);
+	free_deferred(registry);
+	if (change->replaces)
+		result = kupaldiz_replace(&registry->keeper, cpu, change->name, change->value,
+		    change->gone, change->made);
+	else
+		result = kupaldiz_attach(&registry->keeper, cpu, change->name, change->value,
+		    change->made);
+	give(registry);
+	return result;
+}
+
+static enum kupaldiz_result make_change(const struct member *member, const struct change *change)
+{
+	struct table *table = member->table;
+	const size_t index = chosen(&member->choice, change->name);
+	if (!make_room(table))
+		return judge_full(&member->cpus[index], change);
+	enum kupaldiz_result result = change_in(&table->registries[index], &member->cpus[index],
+	    change);
+	if (result != KUPALDIZ_DONE) {
+		note_gone(table);
+		return result == KUPALDIZ_NO_SLOT ? KUPALDIZ_CROWDED : result;
+	}
+	if (change->made != NULL)
+		widen(&member->choice, index, change->made);
+	if (change->replaces)
+		widen(&member->choice, index, change->gone);
+	return KUPALDIZ_DONE;
+}
+
+enum kupaldiz_result kupaldiz_table_attach(const struct kupaldiz_table_thread *thread,
+    const struct kupaldiz_name *name, uint64_t value, struct kupaldiz_entry *made)
+{
+	const struct change change = {.name = name, .value = value, .made = made};
+	return thread->at == NULL ? KUPALDIZ_EMPTY_HANDLE : make_change(thread->at, &change);
+}
+
+enum kupaldiz_result kupaldiz_table_replace(const struct kupaldiz_table_thread *thread,
+    const struct kupaldiz_name *name, uint64_t value, struct kupaldiz_entry *gone,
+    struct kupaldiz_entry *made)
+{
+	const struct change change = {name, value, true, gone, made};
+	return thread->at == NULL ? KUPALDIZ_EMPTY_HANDLE : make_change(thread->at, &change);
+}
+
+enum kupaldiz_result kupaldiz_table_detach(const struct kupaldiz_table_thread *thread,
+    const struct kupaldiz_name *name, struct kupaldiz_entry *gone)
+{
+	const struct member *member = thread->at;
+	if (member == NULL)
+		return KUPALDIZ_EMPTY_HANDLE;
+	const size_t index = chosen(&member->choice, name);
+	struct registry *registry = &member->table->registries[index];
+	take(registry);
+	enum kupaldiz_result result = kupaldiz_detach(&registry->keeper, &member->cpus[index],
+	    KUPALDIZ_ENTRY, name, gone);
+	give(registry);
+	if (result == KUPALDIZ_DONE)
+		widen(&member->choice, index, gone);
+	return result;
+}
+
+/* ---- What is gone. ---- */
+
+enum kupaldiz_result kupaldiz_table_destroy(const struct kupaldiz_table_thread *thread,
+    uint64_t number, const struct timespec *deadline, struct kupaldiz_met *met)
+{
+	const struct member *member = thread->at;
+	struct kupaldiz_met last;
+	if (member == NULL)
+		return KUPALDIZ_EMPTY_HANDLE;
+	const size_t index = index_of(&member->choice, number);
+	if (index >= member->choice.registries)
+		return KUPALDIZ_NOT_RETIRED;
+	enum kupaldiz_result result = kupaldiz_destroy_wait(
+	    &member->table->registries[index].interlock, &member->cpus[index],
+	    number >> member->choice.bits, deadline, &last);
+	if (result == KUPALDIZ_DONE) {
+		note_gone(member->table);
+		last.what += index * member->choice.slots;
+	}
+	if (met != NULL && (result == KUPALDIZ_DONE || result == KUPALDIZ_STILL_HELD))
+		*met = last;
+	return result;
+}
+
+enum kupaldiz_result kupaldiz_table_defer(const struct kupaldiz_table_thread *thread,
+    const struct kupaldiz_entry *gone)
+{
+	const struct member *member = thread->at;
+	if (member == NULL)
+		return KUPALDIZ_EMPTY_HANDLE;
+	if (gone == NULL)
+		return KUPALDIZ_NULL;
+	const size_t index = index_of(&member->choice, gone->number);
+	struct registry *registry = &member->table->registries[index];
+	struct kupaldiz_entry own = *gone;
+	if (index >= member->choice.registries)
+		return KUPALDIZ_NOT_RETIRED;
+	narrow(&member->choice, index, &own);
+	take(registry);
+	enum kupaldiz_result result = kupaldiz_deferred_add(&registry->deferred, &own);
+	if (result == KUPALDIZ_DONE) {
+		atomic_fetch_add(&member->table->deferred, 1);
+		free_deferred(registry);
+	}
+	give(registry);
+	return result;
+}
+
+enum kupaldiz_result kupaldiz_table_barrier(const struct kupaldiz_table *handle,
+    const struct timespec *deadline)
+{
+	struct table *table = handle->at;
+	enum kupaldiz_result result = KUPALDIZ_DONE;
+	if (table == NULL)
+		return KUPALDIZ_EMPTY_HANDLE;
+	for (size_t i = 0; i < table->choice.registries; i++)
+		if (kupaldiz_deferred_barrier(&table->registries[i].deferred, deadline) !=
+		    KUPALDIZ_DONE)
+			result = KUPALDIZ_STILL_HELD;
+	return result;
+}
+
+enum kupaldiz_result kupaldiz_table_count(const struct kupaldiz_table *handle, uint64_t *count)
+{
+	struct table *table = handle->at;
+	if (table == NULL)
+		return KUPALDIZ_EMPTY_HANDLE;
+	if (count != NULL)
+		*count = atomic_load(&table->occupied);
+	return KUPALDIZ_DONE;
+}
