@@ -95,19 +95,13 @@ struct slot {
 	bool collected;		/* a turn has met KUPALDIZ_LOCAL */
 };
 
-/* A local reference, and where it is counted. */
-struct held {
-	struct kupaldiz_local local;
-	uint64_t number;
-};
-
 static struct kupaldiz_settings settings;
 static struct kupaldiz_keeper keeper;
 static struct kupaldiz_cpu cpus[CPUS];
 static struct kupaldiz_name names[NAMES];
 static struct slot slots[SLOTS];
 static struct kupaldiz_passive passives[HELD];
-static struct held locals[HELD];
+static struct kupaldiz_local locals[HELD];
 static uint64_t changes, entered[CPUS];	/* how many changes a section has seen plus 1, or 0 */
 static uint64_t blocks_at_first, compared;
 static unsigned last_cpu;
@@ -318,53 +312,51 @@ static const struct slot *slot_of(uint64_t number)
 }
 
 /* On any CPU, also without one once the count was collected. A copy that stays changes nothing. */
-static void release_local(struct held *held)
+static void release_local(struct kupaldiz_local *local)
 {
-	const bool is_collected = slot_of(held->number)->collected;
+	const bool is_collected = slot_of(local->entry.number)->collected;
 	struct kupaldiz_cpu *cpu = &cpus[any_cpu()];
-	same(kupaldiz_try_release_local(cpu, &held->local),
+	same(kupaldiz_try_release_local(cpu, local),
 	    is_collected ? KUPALDIZ_COLLECTED : KUPALDIZ_DONE);
 	if (is_collected)
-		same(kupaldiz_release_local_locked(&keeper, below(2) ? NULL : cpu, &held->local),
+		same(kupaldiz_release_local_locked(&keeper, below(2) ? NULL : cpu, local),
 		    KUPALDIZ_DONE);
-	EXPECT(held->local.at[0] == NULL && held->local.entry.number == 0);
-	held->number = 0;
+	EXPECT(local->at[0] == NULL && local->entry.number == 0);
 }
 
 /* A copy is kept in place of the reference. Without memory there is none. */
-static void copy_local(struct held *held)
+static void copy_local(struct kupaldiz_local *local)
 {
 	struct kupaldiz_local copy = {0};
 	was_refused = false;
-	const enum kupaldiz_result result = kupaldiz_copy_local(&held->local, &copy);
+	const enum kupaldiz_result result = kupaldiz_copy_local(local, &copy);
 	same(result, was_refused ? KUPALDIZ_NO_MEMORY : KUPALDIZ_DONE);
 	if (result != KUPALDIZ_DONE)
 		return;
-	EXPECT(same_entry(&copy.entry, &held->local.entry));
-	DONE(kupaldiz_try_release_local(&cpus[last_cpu], &held->local));
-	held->local = copy;
+	EXPECT(same_entry(&copy.entry, &local->entry));
+	DONE(kupaldiz_try_release_local(&cpus[last_cpu], local));
+	*local = copy;
 }
 
 /* Only here memory is taken. Now and then there is none. */
 static void count(void)
 {
-	struct held *at = &locals[below(HELD)];
+	struct kupaldiz_local *at = &locals[below(HELD)];
 	const enum kupaldiz_kind kind = any_kind();
 	const struct kupaldiz_name *name = any_name();
 	const struct slot *slot = live_slot(kind, name);
 	struct kupaldiz_cpu *cpu = &cpus[any_cpu()];
-	if (at->number != 0) {
-		same(kupaldiz_get_local(cpu, kind, name, &at->local), KUPALDIZ_FULL_HANDLE);
+	if (at->entry.number != 0) {
+		same(kupaldiz_get_local(cpu, kind, name, at), KUPALDIZ_FULL_HANDLE);
 		return;
 	}
 	allowed = below(4) == 0 ? below(3) : UINT64_MAX;
 	was_refused = false;
-	const enum kupaldiz_result result = kupaldiz_get_local(cpu, kind, name, &at->local);
+	const enum kupaldiz_result result = kupaldiz_get_local(cpu, kind, name, at);
 	same(result, was_refused ? KUPALDIZ_NO_MEMORY : slot != NULL ? KUPALDIZ_DONE
 	                                                              : KUPALDIZ_NOT_FOUND);
-	at->number = at->local.entry.number;
-	if (at->number != 0) {
-		EXPECT(same_entry(&at->local.entry, &slot->entry));
+	if (result == KUPALDIZ_DONE) {
+		EXPECT(same_entry(&at->entry, &slot->entry));
 		copy_local(at);
 	}
 	allowed = UINT64_MAX;
@@ -372,8 +364,8 @@ static void count(void)
 
 static void uncount(void)
 {
-	struct held *at = &locals[below(HELD)];
-	if (at->number != 0)
+	struct kupaldiz_local *at = &locals[below(HELD)];
+	if (at->entry.number != 0)
 		release_local(at);
 }
 
@@ -384,7 +376,7 @@ static uint64_t count_locals(uint64_t number)
 {
 	uint64_t sum = 0;
 	for (unsigned i = 0; i < HELD; i++)
-		sum += locals[i].number == number;
+		sum += locals[i].entry.number == number;
 	for (unsigned s = 0; s < settings.slots; s++)
 		sum += slots[s].state != VACANT && slots[s].driver == number;
 	return sum;
@@ -465,6 +457,7 @@ static void audit(void)
 /* Who writes shared words in a call: the CPU, the keeper, or both. */
 enum writer { CPU, KEEPER, BOTH };
 
+/* The first four change entries. */
 static const struct row {
 	void (*act)(void);
 	enum writer writer;
@@ -474,21 +467,28 @@ static const struct row {
 	{look_up, CPU, 12}, {enter_or_exit, CPU, 6}, {refer, CPU, 6}, {count, CPU, 4},
 	{uncount, BOTH, 4}, {walk, CPU, 3}, {audit, KEEPER, 1},
 };
+enum { CHANGES = 22 + 6 + 18 + 18 };
 
-/* Makes any of them. Who writes in it. */
-static enum writer act_any(void)
+/* A reference has a block, its count once it was copied, and its share; and each CPU keeps one. */
+static void count_blocks(void)
+{
+	uint64_t held = 0;
+	for (unsigned i = 0; i < HELD; i++)
+		held += locals[i].entry.number != 0;
+	EXPECT(blocks <= blocks_at_first + 3 * held + settings.cpus);
+}
+
+/* Makes any of the first rows. Who writes in it. */
+static enum writer act_any(uint64_t among)
 {
 	const uint64_t before = taken;
-	uint64_t which = below(100), held = 0;
 	const struct row *row = ROWS;
-	while (which >= row->often)
-		which -= row++->often;
+	for (uint64_t which = below(among); which >= row->often; row++)
+		which -= row->often;
 	row->act();
 	EXPECT(taken == before || row->act == count);
-	/* A reference, its count once it was copied, and its share; and each CPU keeps one. */
-	for (unsigned i = 0; i < HELD; i++)
-		held += locals[i].number != 0;
-	EXPECT(blocks <= blocks_at_first + 3 * held + settings.cpus);
+	if (taken != before)
+		count_blocks();
 	return row->writer;
 }
 
@@ -502,7 +502,7 @@ static void let_all_go(void)
 		if (passives[i].entry.number != 0)
 			DONE(kupaldiz_release(&cpus[passives[i].cpu], &passives[i]));
 	for (unsigned i = 0; i < HELD; i++)
-		if (locals[i].number != 0)
+		if (locals[i].entry.number != 0)
 			release_local(&locals[i]);
 }
 
@@ -628,7 +628,7 @@ static void run(const struct kupaldiz_settings *of, uint64_t seed, bool is_watch
 	open_registry(of, seed);
 	const uint64_t most = 100 * of->change_limit + 100000;
 	for (uint64_t turns = 1; changes + count_of(LIVE) + 2 <= of->change_limit; turns++) {
-		enum writer writer = act_any();
+		enum writer writer = act_any(is_watched || turns % 8 == 0 ? 100 : CHANGES);
 		if (turns % 512 == 0) {
 			settle();
 			writer = BOTH;

@@ -446,6 +446,26 @@ static void check_acquired(struct bench *bench)
 	DONE(kupaldiz_release_local_locked(&bench->keeper, cpu, &local));
 }
 
+/* A section acquires what it found last, also once that is retired. A later section doesn't. */
+static void check_found(struct bench *bench)
+{
+	static const enum kupaldiz_result wanted[] = {KUPALDIZ_DONE, KUPALDIZ_NOT_FOUND};
+	struct kupaldiz_cpu *cpu = &bench->cpus[OUTER];
+	struct kupaldiz_entry found, gone;
+	DONE(kupaldiz_enter_find(cpu, KUPALDIZ_DRIVER, &wm, &found));
+	DONE(kupaldiz_detach(&bench->keeper, &bench->cpus[SPENT], KUPALDIZ_DRIVER, &wm, &gone));
+	for (unsigned i = 0; i < COUNT_OF(wanted); i++) {
+		struct kupaldiz_passive passive = {0};
+		struct kupaldiz_local local = {0};
+		EXPECT(kupaldiz_acquire_local(cpu, &found, &local) == wanted[i]);
+		EXPECT(kupaldiz_acquire(cpu, &found, &passive) == wanted[i]);
+		kupaldiz_release(cpu, &passive);
+		kupaldiz_release_local_locked(&bench->keeper, cpu, &local);
+		DONE(kupaldiz_exit(cpu));
+		DONE(kupaldiz_enter(cpu));
+	}
+}
+
 static void count_locals(struct bench *bench, uint64_t held)
 {
 	struct kupaldiz_met met;
@@ -589,6 +609,7 @@ int main(void)
 	open_bench(&benches[ROOMY]);
 	check_acquired(&benches[ROOMY]);
 	check_passive(&benches[ROOMY]);
+	check_found(&benches[ROOMY]);
 	close_bench(&benches[ROOMY]);
 	open_bench(&benches[ROOMY]);
 	check_copies(&benches[ROOMY]);

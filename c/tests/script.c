@@ -267,12 +267,20 @@ static void find(char **word)
 	}
 }
 
+static bool holds(const char *word, const struct kupaldiz_entry *entry)
+{
+	bool held;
+	DONE(kupaldiz_held(cpu(word), entry->number, &held));
+	return held;
+}
+
 /* Whether the CPU has no last found entry, which is printed. */
 static bool found_nothing(const char *word)
 {
-	if (found[place(word)].number == 0)
+	const bool is_none = found[place(word)].number == 0;
+	if (is_none)
 		printf("refused NothingFound");
-	return found[place(word)].number == 0;
+	return is_none;
 }
 
 static void ref(char **word)
@@ -291,13 +299,6 @@ static void copy(char **word)
 		return;
 	if (!is_refused(kupaldiz_copy(cpu(word[1]), from, to)))
 		print_reference("ref", word[3], &to->entry);
-}
-
-static bool holds(const char *word, const struct kupaldiz_entry *entry)
-{
-	bool held;
-	DONE(kupaldiz_held(cpu(word), entry->number, &held));
-	return held;
 }
 
 static void held(char **word)
@@ -404,16 +405,16 @@ static void perform(char **word)
 		printf("performed");
 }
 
-/* The total has what is counted on no CPU of the script's. */
+/* What is counted on CPUs that the script doesn't have is a part of the total. */
 static void print_balance(const struct kupaldiz_balance *balance)
 {
-	int64_t total = balance->held;
+	int64_t total = balance->total;
+	for (unsigned c = 0; c < first_cpu; c++)
+		total += balance->locals[c];
 	printf("slot %" PRIu64 " number %" PRIu64 " held %" PRId64 " locals",
 	    balance->slot - spares, balance->number - spares, balance->held);
-	for (unsigned c = first_cpu; c < CPUS; c++) {
+	for (unsigned c = first_cpu; c < CPUS; c++)
 		printf(" %" PRId64, balance->locals[c]);
-		total -= balance->locals[c];
-	}
 	printf(" total %" PRId64, total);
 }
 
