@@ -202,9 +202,9 @@ static void add_call(void)
 {
 	if (added - called == MOST_CALLS)
 		return;
-	struct thing *thing = calloc(1, sizeof *thing);
+	struct thing *thing = malloc(sizeof *thing);
 	EXPECT(thing != NULL);
-	thing->call.function = make_call;
+	thing->call = (struct kupaldiz_call){&thing->call, make_call};
 	thing->place = added++;
 	for (unsigned i = 0; i < READERS; i++)
 		thing->open[i] = sections[i] % 2 == 1 ? sections[i] : 0;

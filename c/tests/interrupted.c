@@ -365,19 +365,20 @@ static void test_far(void)
  * A thread that is to be cancelled stops a reclaimer: it waits for its end, is cancelled later, and
  * leaves nothing behind.
  */
-static void *stop(void *of)
+static void *stop(void *has_returned)
 {
-	(void)of;
 	EXPECT(pthread_cancel(pthread_self()) == 0);
 	DONE(kupaldiz_reclaimer_stop(&list));
+	*(bool *)has_returned = true;
 	pthread_testcancel();
 	return NULL;
 }
 
 static void test_cancelled_stop(void)
 {
+	bool has_returned = false;
 	DONE(kupaldiz_reclaimer_start(&list));
-	EXPECT(joined(started(stop, NULL)) == PTHREAD_CANCELED);
+	EXPECT(joined(started(stop, &has_returned)) == PTHREAD_CANCELED && has_returned);
 	IS(EMPTY_HANDLE, kupaldiz_reclaimer_stop(&list));
 }
 
