@@ -43,7 +43,8 @@ $(OUT)/recalls: STRICT = -std=c11 -D_GNU_SOURCE -mno-red-zone $(WARNINGS)
 $(OUT)/recalls: LINK = -Wl,--wrap=malloc
 $(addprefix $(OUT)/,reclaims sanitized-reclaims raced-reclaims): LINK = -Wl,--wrap=malloc,--wrap=pthread_create,--wrap=pthread_cond_init \
     -Wl,--wrap=clock_gettime,--wrap=pthread_cond_wait,--wrap=pthread_cond_timedwait
-$(addprefix $(OUT)/,interrupted raced-interrupted): LINK = -Wl,--wrap=nanosleep,--wrap=pthread_cond_wait,--wrap=pthread_cond_timedwait
+$(addprefix $(OUT)/,interrupted raced-interrupted): LINK = -Wl,--wrap=nanosleep,--wrap=pthread_cond_wait,--wrap=pthread_cond_timedwait \
+    -Wl,--wrap=pthread_join
 $(OUT)/lent $(OUT)/sanitized-lent: LINK = -Wl,--wrap=malloc,--wrap=pthread_condattr_init,--wrap=pthread_cond_init,--wrap=pthread_key_create,--wrap=pthread_setspecific
 $(OUT)/turns: c/tests/pauses.h c/tests/dice.h c/tests/child.h
 $(OUT)/turns: CFLAGS += -include c/tests/pauses.h

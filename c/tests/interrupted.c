@@ -361,12 +361,26 @@ static void test_far(void)
 	}
 }
 
+/* Whether this thread joins another one where it can't be cancelled. */
+static _Thread_local bool is_kept;
+
+WRAPPED(pthread_join);
+int __wrap_pthread_join(pthread_t thread, void **result)
+{
+	int state;
+	EXPECT(pthread_setcancelstate(PTHREAD_CANCEL_DISABLE, &state) == 0);
+	EXPECT(!is_kept || state == PTHREAD_CANCEL_DISABLE);
+	EXPECT(pthread_setcancelstate(state, NULL) == 0);
+	return __real_pthread_join(thread, result);
+}
+
 /*
  * A thread that is to be cancelled stops a reclaimer: it waits for its end, is cancelled later, and
  * leaves nothing behind.
  */
 static void *stop(void *has_returned)
 {
+	is_kept = true;
 	EXPECT(pthread_cancel(pthread_self()) == 0);
 	DONE(kupaldiz_reclaimer_stop(&list));
 	*(bool *)has_returned = true;
