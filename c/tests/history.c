@@ -680,6 +680,7 @@ static void keep_blocks(void)
 	};
 	const struct kupaldiz_settings of = {2, 2, 100, 1000, 3, 100};
 	struct kupaldiz_local local[4] = {0};
+	struct kupaldiz_entry found;
 	unsigned held = 0;
 	open_registry(&of, 1);
 	DONE(kupaldiz_attach(&keeper, &cpus[1], &names[0], 7, NULL));
@@ -692,6 +693,11 @@ static void keep_blocks(void)
 	allowed = 0;
 	DONE(get_local(0, &local[0]));
 	IS(NO_MEMORY, get_local(1, &local[1]));
+	DONE(kupaldiz_enter_find(&cpus[1], KUPALDIZ_DRIVER, &names[0], &found));
+	IS(NO_MEMORY, kupaldiz_acquire_local(&cpus[1], &found, &local[1]));
+	DONE(kupaldiz_exit(&cpus[1]));
+	IS(NO_MEMORY, kupaldiz_copy_local(&local[0], &local[1]));
+	EXPECT(local[1].entry.number == 0);
 	allowed = UINT64_MAX;
 	DONE(kupaldiz_try_release_local(&cpus[0], &local[0]));
 	close_registry();
