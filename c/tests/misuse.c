@@ -4,7 +4,8 @@
  *
  * A row of ROWS has a call and what may be wrong with it, in the order in which kupaldiz.h says
  * that it is tested. The call is made with each set of these faults: it returns what the first of
- * them is for, changes nothing and writes nothing. With no fault it is done.
+ * them is for, changes nothing and writes nothing. With no fault it is done. Each is made once more
+ * without a place for what it may leave unwritten.
  */
 #include <signal.h>
 #include <sys/mman.h>
@@ -35,7 +36,7 @@ static struct bench {
 } benches[BENCHES];
 
 static struct kupaldiz_name wm, full, fresh, absent;
-static struct kupaldiz_cpu no_cpu;
+static struct kupaldiz_cpu no_cpu, swapped[CPUS], with_empty[CPUS];	/* ROOMY's */
 static struct kupaldiz_keeper no_keeper;
 static struct kupaldiz_passive no_passive, not_held;
 static struct kupaldiz_local no_local;
@@ -58,7 +59,8 @@ struct given {
 	struct kupaldiz_wait *wait;
 	const struct kupaldiz_settings *settings;
 	uint64_t number;
-	bool lacks;			/* what the call reads or writes is NULL */
+	bool lacks;			/* what the call reads or needs to write is NULL */
+	bool is_mute;			/* and so is what it writes besides */
 	bool is_full;			/* the keeper */
 };
 
@@ -97,6 +99,8 @@ struct written {
 	X(NULL_SETTINGS, NULL, given->settings = NULL)						\
 	X(NO_SETTING, BAD_SETTINGS, given->settings = &NO_SETTINGS)				\
 	X(LESS_CPUS, MISSING_CPU, given->count = CPUS - 1)					\
+	X(OTHER_CPUS, MISSING_CPU, given->cpus = swapped)					\
+	X(EMPTY_CPU, MISSING_CPU, given->cpus = with_empty)					\
 	X(NO_KIND, BAD_KIND, given->kind = given->entry.kind = (enum kupaldiz_kind)258)		\
 	X(ZERO_NAME, BAD_NAME, given->name = &NO_NAME; given->entry.name = NO_NAME)		\
 	X(ZERO_DRIVER, BAD_NAME, given->driver = &NO_NAME)					\
@@ -146,6 +150,7 @@ static const struct {
 #define PASSIVE	(in->full != NULL ? in->full : &out->passive)
 #define LOCAL	(in->full_local != NULL ? in->full_local : &out->local)
 #define PLACE(member)	(in->lacks ? NULL : &out->member)
+#define OUT(member)	(in->is_mute ? NULL : &out->member)
 
 #define CALL(name, arguments)									\
 	static enum kupaldiz_result call_##name(const struct given *in, struct written *out)	\
@@ -157,36 +162,36 @@ static const struct {
 CALL(open, (in->settings, in->is_full ? &in->on->keeper : &out->keeper,
     in->cpus != NULL ? out->cpus : NULL, in->count))
 CALL(close, (NULL, in->cpus, in->count))
-CALL(settings_of, (in->keeper, &out->settings))
+CALL(settings_of, (in->keeper, OUT(settings)))
 CALL(enter, (in->cpu))
 CALL(exit, (in->cpu))
-CALL(depth, (in->cpu, &out->number))
-CALL(look_up, (in->cpu, in->kind, in->name, &out->entry))
-CALL(find, (in->cpu, in->kind, in->name, &out->entry))
-CALL(enter_find, (in->cpu, in->kind, in->name, &out->entry))
-CALL(walk, (in->cpu, in->lacks ? NULL : out->row, in->room, &out->length))
+CALL(depth, (in->cpu, OUT(number)))
+CALL(look_up, (in->cpu, in->kind, in->name, OUT(entry)))
+CALL(find, (in->cpu, in->kind, in->name, OUT(entry)))
+CALL(enter_find, (in->cpu, in->kind, in->name, OUT(entry)))
+CALL(walk, (in->cpu, in->lacks ? NULL : out->row, in->room, OUT(length)))
 CALL(get, (in->cpu, in->kind, in->name, PASSIVE))
 CALL(acquire, (in->cpu, in->lacks ? NULL : &in->entry, PASSIVE))
 CALL(copy, (in->cpu, in->from, PASSIVE))
 CALL(release, (in->cpu, in->from))
-CALL(held, (in->cpu, in->number, &out->is_so))
+CALL(held, (in->cpu, in->number, OUT(is_so)))
 CALL(get_local, (in->cpu, in->kind, in->name, LOCAL))
 CALL(acquire_local, (in->cpu, in->lacks ? NULL : &in->entry, LOCAL))
 CALL(copy_local, (in->local, LOCAL))
 CALL(release_local_locked, (in->keeper, in->cpu, in->local))
 CALL(try_release_local, (in->cpu, in->local))
 CALL(forget_local, (in->local))
-CALL(attach, (in->keeper, in->cpu, in->name, 7, &out->entry))
-CALL(attach_iface, (in->keeper, in->cpu, in->driver, in->name, 7, &out->entry))
-CALL(replace, (in->keeper, in->cpu, in->name, 7, PLACE(gone), &out->entry))
-CALL(replace_iface, (in->keeper, in->cpu, in->driver, in->name, 7, PLACE(gone), &out->entry))
+CALL(attach, (in->keeper, in->cpu, in->name, 7, OUT(entry)))
+CALL(attach_iface, (in->keeper, in->cpu, in->driver, in->name, 7, OUT(entry)))
+CALL(replace, (in->keeper, in->cpu, in->name, 7, PLACE(gone), OUT(entry)))
+CALL(replace_iface, (in->keeper, in->cpu, in->driver, in->name, 7, PLACE(gone), OUT(entry)))
 CALL(detach, (in->keeper, in->cpu, in->kind, in->name, PLACE(gone)))
 CALL(room, (in->keeper))
-CALL(destroy, (in->keeper, in->number, &out->met))
+CALL(destroy, (in->keeper, in->number, OUT(met)))
 CALL(perform_begin, (in->keeper, in->cpu, in->wait))
-CALL(perform_turn, (in->keeper, in->cpu, in->wait, &out->number))
+CALL(perform_turn, (in->keeper, in->cpu, in->wait, OUT(number)))
 CALL(audit, (in->keeper, in->cpus, in->count, in->lacks ? NULL : out->list, in->room,
-    &out->length))
+    OUT(length)))
 
 /* A call, the CPU and the name that it gets if these are right, and its faults in their order. */
 static const struct row {
@@ -240,7 +245,8 @@ static const struct row {
 	ROW(destroy, OUTER, NULL, NO_KEEPER, IS_LIVE, IS_HELD),
 	ROW(perform_begin, OUTER, NULL, CHANGES, NULL_WAIT, IS_IN),
 	ROW(perform_turn, OUTER, NULL, CHANGES, NULL_WAIT, UNBEGUN, NOT_ITS, IS_IN, IS_EARLY),
-	ROW(audit, OUTER, NULL, NO_KEEPER, NULL_CPUS, NULL_PLACE, LESS_CPUS, LESS_ROOM),
+	ROW(audit, OUTER, NULL, NO_KEEPER, NULL_CPUS, NULL_PLACE, LESS_CPUS, OTHER_CPUS, EMPTY_CPU,
+	    LESS_ROOM),
 };
 
 /* ---- What was there before. ---- */
@@ -360,12 +366,13 @@ static bool writes(enum kupaldiz_result result)
 
 static unsigned long compared;
 
-static void try(const struct row *row, unsigned faults)
+static void try(const struct row *row, unsigned faults, bool is_mute)
 {
 	static struct bench before[BENCHES];
 	static struct written out, untouched;
 	struct given given;
 	const enum kupaldiz_result wanted = prepare(row, faults, &given);
+	given.is_mute = is_mute;
 	memcpy(before, benches, sizeof before);
 	memset(&untouched, 0x5a, sizeof untouched);
 	memset(&untouched, 0, offsetof(struct written, entry));
@@ -384,7 +391,7 @@ static void try(const struct row *row, unsigned faults)
 	compared++;
 }
 
-static void try_each(const struct row *row)
+static void try_each(const struct row *row, bool is_mute)
 {
 	unsigned count = 0;
 	while (count < MOST_FAULTS && row->faults[count] != NOTHING)
@@ -392,8 +399,13 @@ static void try_each(const struct row *row)
 	for (unsigned i = 0; i < BENCHES; i++)
 		open_bench(&benches[i]);
 	not_held = (struct kupaldiz_passive){.entry = benches[ROOMY].retired, .cpu = INNER};
+	memcpy(swapped, benches[ROOMY].cpus, sizeof swapped);
+	memcpy(with_empty, swapped, sizeof swapped);
+	swapped[INNER] = with_empty[OUTER];
+	swapped[OUTER] = with_empty[INNER];
+	with_empty[OUTER] = no_cpu;
 	for (unsigned faults = 1U << count; faults-- > 0;)
-		try(row, faults);
+		try(row, faults, is_mute);
 	for (unsigned i = 0; i < BENCHES; i++)
 		close_bench(&benches[i]);
 }
@@ -602,8 +614,8 @@ int main(void)
 	full = name_of("full");
 	fresh = name_of("fresh");
 	absent = name_of("absent");
-	for (size_t i = 0; i < COUNT_OF(ROWS); i++)
-		try_each(&ROWS[i]);
+	for (size_t i = 0; i < 2 * COUNT_OF(ROWS); i++)
+		try_each(&ROWS[i / 2], i % 2 != 0);
 	const int status = run_in_child(open_roomy, check_forgotten, said, sizeof said);
 	EXPECT(said[0] == 0 && WIFSIGNALED(status) && WTERMSIG(status) == SIGKILL);
 	open_bench(&benches[ROOMY]);
