@@ -277,7 +277,7 @@ static void two_threads_without_a_lock(void)
 	look_up_often(NULL);
 }
 
-static void *attach_often(void *of)
+static void *use_keeper_often(void *of)
 {
 	for (;;)
 		DONE(AT(0, kupaldiz_settings_of(&one.keeper, NULL)));
@@ -286,8 +286,8 @@ static void *attach_often(void *of)
 
 static void changes_without_a_lock(void)
 {
-	started(attach_often, NULL);
-	attach_often(NULL);
+	started(use_keeper_often, NULL);
+	use_keeper_often(NULL);
 }
 
 static void *end_inside(void *of)
