@@ -36,9 +36,10 @@ static atomic_bool is_there;
 #define AT(place, call)	(lines[place] = __LINE__, (call))
 
 /*
- * Which of them is the child's thread, and the seconds after which a process that hangs is ended.
+ * Which of them are the child's status and thread, and the seconds after which a process that hangs
+ * is ended.
  */
-enum { THREAD = 7, PATIENCE = 600 };
+enum { STATUS = 6, THREAD, PATIENCE = 600 };
 
 /* What a find does before the library's. */
 static void (*before_find)(void);
@@ -54,6 +55,7 @@ enum kupaldiz_result __wrap_kupaldiz_find(struct kupaldiz_cpu *on, enum kupaldiz
 static void open_both(void)
 {
 	alarm(PATIENCE);
+	lines[STATUS] = EXIT_SUCCESS;
 	lines[THREAD] = (int)getpid();
 	DONE(AT(8, kupaldiz_open(&SETTINGS, &one.keeper, one.cpus, 2)));
 	DONE(AT(9, kupaldiz_open(&SETTINGS, &two.keeper, two.cpus, 2)));
@@ -319,6 +321,13 @@ static void program_ended_holding(void)
 {
 	DONE(AT(0, GET(cpu0, &passive)));
 	exit(EXIT_SUCCESS);
+}
+
+static void program_failed(void)
+{
+	lines[STATUS] = EXIT_FAILURE;
+	DONE(GET(cpu0, &passive));
+	exit(EXIT_FAILURE);
 }
 
 static void left_local(void)
@@ -717,6 +726,7 @@ static const struct row ROWS[] = {
 	    "@0: kupaldiz_get: thread @t has ended with this reference to wm\n"),
 	ROW(program_ended_holding,
 	    "@0: kupaldiz_get: thread @t has ended with this reference to wm\n"),
+	ROW(program_failed, ""),
 	ROW(left_local,
 	    "@0: kupaldiz_get_local: the registry was closed with this local reference to wm\n"),
 	ROW(ended_counting, "local, CPU 0, @0, thread @t, which has ended\n"),
@@ -785,7 +795,8 @@ static void fill(char *filled, size_t room, const char *text)
 static bool is_as(const struct row *row, const char *said, const char *wanted, int status)
 {
 	if (row->says[0] != '@')
-		return strcmp(said, wanted) == 0 && status == 0;
+		return strcmp(said, wanted) == 0 && WIFEXITED(status) &&
+		    WEXITSTATUS(status) == lines[STATUS];
 	return strncmp(said, wanted, strlen(wanted)) == 0 && WIFSIGNALED(status) &&
 	    WTERMSIG(status) == SIGABRT;
 }
