@@ -188,22 +188,23 @@ static void bring(enum kupaldiz_kind kind, const struct kupaldiz_name *name,
 	const struct slot *driver = kind == KUPALDIZ_INTERFACE ? live_slot(KUPALDIZ_DRIVER, on) : old;
 	enum kupaldiz_result wanted = judge_change(old, replaces), result;
 	struct kupaldiz_entry made = {0}, gone = {0};
+	const uint64_t value = random_word;
 	if (is_inside(last_cpu))
 		wanted = KUPALDIZ_INSIDE;
 	else if (kind == KUPALDIZ_INTERFACE && driver == NULL)
 		wanted = KUPALDIZ_NEEDS_DRIVER;
 	if (kind == KUPALDIZ_DRIVER)
-		result = replaces ? kupaldiz_replace(&keeper, cpu, name, changes, &gone, &made)
-		                  : kupaldiz_attach(&keeper, cpu, name, changes, &made);
+		result = replaces ? kupaldiz_replace(&keeper, cpu, name, value, &gone, &made)
+		                  : kupaldiz_attach(&keeper, cpu, name, value, &made);
 	else
 		result = replaces
-		    ? kupaldiz_replace_iface(&keeper, cpu, on, name, changes, &gone, &made)
-		    : kupaldiz_attach_iface(&keeper, cpu, on, name, changes, &made);
+		    ? kupaldiz_replace_iface(&keeper, cpu, on, name, value, &gone, &made)
+		    : kupaldiz_attach_iface(&keeper, cpu, on, name, value, &made);
 	same(result, wanted);
 	if (result != KUPALDIZ_DONE)
 		return;
 	*slot = (struct slot){.state = LIVE, .entry = {changes + 1, (uint64_t)(slot - slots), kind,
-	    *name, {changes}}, .place = replaces ? old->place : changes + 1,
+	    *name, {value}}, .place = replaces ? old->place : changes + 1,
 	    .driver = kind == KUPALDIZ_INTERFACE ? driver->entry.number : 0};
 	EXPECT(same_entry(&made, &slot->entry));
 	changes++;
