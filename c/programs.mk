@@ -13,18 +13,18 @@ TABLE = $(wildcard c/src/table/*.[ch]) c/include/kupaldiz_table.h
 SHARED_HEADERS = c/examples/example.h c/tests/client.h c/examples/expect.h
 
 # Where the programs lie.
-vpath %.c c/examples c/tests
+vpath %.c c/examples c/tests bench
 
-PROGRAMS = smallest walk packet shared misuse allocs changes built $(OVER_WAITING) turns history largest names forwarder device_switch $(PROGRAMS_$(PROCESSOR)) $(BENCHED)
+PROGRAMS = smallest walk packet shared misuse allocs built $(OVER_WAITING) turns script history names forwarder device_switch $(PROGRAMS_$(PROCESSOR)) $(BENCHED)
 # Tests of kupaldiz_waiting.h: each is compiled with it.
-OVER_WAITING = deferred later late together interrupted reclaims lent replaces $(OVER_TABLE)
+OVER_WAITING = deferred together interrupted reclaims lent replaces $(OVER_TABLE)
 # An example of kupaldiz_table.h and its tests.
 OVER_TABLE = table table_calls table_model
 # They read registers of x86-64.
 PROGRAMS_x86_64 = recalls
 # A release's source has no bench.
 BENCH = bench
-BENCHED = $(if $(wildcard $(BENCH)/common.c),speed)
+BENCHED = $(if $(wildcard $(BENCH)/common.c),speed changes)
 # In the checking build, too, which says nothing of them.
 CHECKING = smallest walk packet shared forwarder device_switch together
 
@@ -34,17 +34,14 @@ $(OUT):
 	mkdir -p $@
 
 # Each is made of its own file, and of these.
-$(filter-out $(OUT)/largest,$(PROGRAMS:%=$(OUT)/%)): $(OUT)/%: %.c
-$(OUT)/largest: c/tests/history.c
-$(OUT)/largest: CFLAGS += -DMODEL_OF_THE_LARGEST
-$(addprefix $(OUT)/,deferred history largest): c/tests/model.h c/tests/dice.h
-$(OUT)/later: c/tests/dice.h
+$(PROGRAMS:%=$(OUT)/%): $(OUT)/%: %.c
+$(addprefix $(OUT)/,deferred history): c/tests/dice.h
 $(addprefix $(OUT)/,misuse sanitized-misuse): c/tests/child.h
-$(addprefix $(OUT)/,history largest): c/tests/calls.h
 $(OUT)/allocs: c/src/heap.c
-$(addprefix $(OUT)/,history largest allocs recalls): c/tests/wrapped_heap.h
-$(addprefix $(OUT)/,history largest allocs): LINK = $(WRAP)
-$(addprefix $(OUT)/,shared forwarder device_switch turns $(OVER_WAITING) $(BENCHED)): $(WAITING) c/include/kupaldiz_waiting.h
+$(addprefix $(OUT)/,deferred history allocs recalls): c/tests/wrapped_heap.h
+$(addprefix $(OUT)/,history allocs): LINK = $(WRAP)
+$(OUT)/deferred: LINK = -Wl,--wrap=kupaldiz_destroy
+$(addprefix $(OUT)/,shared forwarder device_switch turns speed $(OVER_WAITING)): $(WAITING) c/include/kupaldiz_waiting.h
 $(foreach way,$(OUT)/ $(OUT)/sanitized- $(OUT)/raced-,$(addprefix $(way),$(OVER_TABLE))): $(TABLE)
 $(OUT)/table_calls $(OUT)/sanitized-table_calls: LINK = -Wl,--wrap=getrandom,--wrap=malloc,--wrap=calloc,--wrap=aligned_alloc,--wrap=pthread_key_create
 $(OUT)/forwarder $(OUT)/device_switch: c/examples/workers.h
@@ -52,7 +49,8 @@ $(OUT)/recalls: STRICT = -std=c11 -D_GNU_SOURCE -mno-red-zone $(WARNINGS)
 $(OUT)/recalls: LINK = -Wl,--wrap=malloc
 $(addprefix $(OUT)/,reclaims sanitized-reclaims raced-reclaims): LINK = -Wl,--wrap=malloc,--wrap=pthread_create,--wrap=pthread_cond_init \
     -Wl,--wrap=clock_gettime,--wrap=pthread_cond_wait,--wrap=pthread_cond_timedwait
-$(addprefix $(OUT)/,interrupted raced-interrupted): LINK = -Wl,--wrap=nanosleep,--wrap=pthread_cond_wait,--wrap=pthread_cond_timedwait
+$(addprefix $(OUT)/,interrupted raced-interrupted): LINK = -Wl,--wrap=nanosleep,--wrap=pthread_cond_wait,--wrap=pthread_cond_timedwait \
+    -Wl,--wrap=pthread_join
 $(OUT)/lent $(OUT)/sanitized-lent: LINK = -Wl,--wrap=malloc,--wrap=pthread_condattr_init,--wrap=pthread_cond_init,--wrap=pthread_key_create,--wrap=pthread_setspecific
 $(OUT)/turns: c/tests/pauses.h c/tests/dice.h c/tests/child.h
 $(OUT)/turns: CFLAGS += -include c/tests/pauses.h
@@ -65,7 +63,7 @@ $(PROGRAMS:%=$(OUT)/%): $(SHARED_HEADERS) $(FACE) $(ARCHIVE) | $(OUT)
 	$(CC) $(STRICT) $(CPPFLAGS) $(CFLAGS) $(INCLUDES) $(LDFLAGS) -o $@ $(filter %.c,$^) $(ARCHIVE) -pthread $(LINK)
 
 # The checking build: the test of what it tells, and programs that it says nothing of.
-$(OUT)/checked: c/tests/checked.c c/tests/child.h
+$(OUT)/checked: c/tests/checked.c c/tests/child.h c/tests/wrapped_heap.h
 $(OUT)/checked: LINK = -Wl,--wrap=kupaldiz_find
 $(CHECKING:%=$(OUT)/checked-%): $(OUT)/checked-%: %.c
 
@@ -85,7 +83,7 @@ $(addprefix $(OUT)/sanitized-,shared forwarder device_switch $(WAITING_SANITIZED
 
 # What is C of the archive is compiled with the test that sees it. It comes first, so the archive's own isn't called.
 $(OUT)/sanitized-names: c/src/strings.c c/src/texts.h
-$(OUT)/sanitized-history: c/tests/calls.h c/tests/model.h c/tests/dice.h c/tests/wrapped_heap.h
+$(OUT)/sanitized-history: c/tests/dice.h c/tests/wrapped_heap.h
 $(OUT)/sanitized-history: CPPFLAGS += -DHISTORY_BRIEFLY
 $(OUT)/sanitized-names: LINK = -Wl,-z,muldefs
 
@@ -117,7 +115,7 @@ ORDERED = misuse history
 
 ordered: $(ORDERED:%=$(OUT)/ordered-%)
 
-$(OUT)/ordered-history: c/tests/calls.h c/tests/model.h c/tests/dice.h
+$(OUT)/ordered-history: c/tests/dice.h
 
 $(ORDERED:%=$(OUT)/ordered-%): $(OUT)/ordered-%: %.c c/tests/ordered.c $(SHARED_HEADERS) c/tests/wrapped_heap.h $(FACE) $(ARCHIVE)
 	$(CC) -std=c11 -D_GNU_SOURCE -DHISTORY_BRIEFLY $(WARNINGS) $(CPPFLAGS) $(CFLAGS) $(INCLUDES) $(LDFLAGS) -o $@ $(filter %.c,$^) $(ARCHIVE) -pthread \

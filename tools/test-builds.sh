@@ -24,7 +24,7 @@ runs() {
 
 # The same over musl, and waits that are interrupted: their deadlines and cancellations are the C library's. (The checking build stops such a wait.)
 runs_over_musl() {
-    runs musl-gcc "$@" && built interrupted musl-gcc "$@" -Wl,--wrap=nanosleep,--wrap=pthread_cond_wait,--wrap=pthread_cond_timedwait && "$room/interrupted"
+    runs musl-gcc "$@" && built interrupted musl-gcc "$@" -Wl,--wrap=nanosleep,--wrap=pthread_cond_wait,--wrap=pthread_cond_timedwait,--wrap=pthread_join && "$room/interrupted"
 }
 
 # runs_as_cxx COMMAND..: the headers, in C++20.

@@ -99,6 +99,14 @@ catches() {
     ! limited "$@" >"$log.said" 2>&1 && grep -q "$text" "$log.said" || { tail -n 5 "$log.said"; return 1; }
 }
 
+# Each script of examples has its report at its end.
+scripts_report() {
+    local script
+    for script in examples/*.txt; do
+        "$out/script" "$script" | diff - <(sed '1,/^# It prints:/d; s/^# //' "$script") || return 1
+    done
+}
+
 test_page() {
     check "the pages are made of the headers" make pages
     check "the headers of the checking build and of the thread sanitizer are made of the calls" tools/call-headers.py make
@@ -122,9 +130,10 @@ test_page() {
 }
 
 test_c() {
-    programs C: "" "$out/" smallest walk packet 'shared 2000' misuse allocs built turns deferred later late together interrupted reclaims lent replaces table table_calls 'table_model 5000' history \
-        'largest 30000 1 long' names recalls forwarder device_switch 'speed 2 8 1000' 'changes 20' 'changes 20 2 4' 'changes 20 64 255' checked
+    programs C: "" "$out/" smallest walk packet 'shared 2000' misuse allocs built turns deferred together interrupted reclaims lent replaces table table_calls 'table_model 5000' history \
+        'history 30000 1 largest' names recalls forwarder device_switch 'speed 2 8 1000' 'changes 20' 'changes 20 2 4' 'changes 20 64 255' checked
     programs C: " in the checking build" "$out/checked-" smallest walk packet 'shared 500' 'forwarder 200' 'device_switch 20' 'together 20'
+    check "C: each script of examples prints its report" scripts_report
     counted "C: programs compiled for other limits" packaging/other-limits.sh "${header%/*}" "$out/libkupaldiz_proved.a"
     counted "C: installed, used by pkg-config alone, and uninstalled" tools/test-install.sh
     counted "C: built as users build" tools/test-builds.sh

@@ -578,8 +578,9 @@ static void print_holders(FILE *out, uint64_t number, bool sections)
 	for (const struct record *it = after(NULL); it != NULL; it = after(it))
 		if (it->made.call != NULL && (it->kind == CPU) == sections &&
 		    (sections || it->number == number))
-			fprintf(out, "%s, CPU %" PRIu64 ", %s:%u, thread %ld\n", words[it->kind],
-			    it->cpu, it->made.file, it->made.line, it->made.thread);
+			fprintf(out, "%s, CPU %" PRIu64 ", %s:%u, thread %ld%s\n",
+			    words[it->kind], it->cpu, it->made.file, it->made.line,
+			    it->made.thread, is_alive(it->made.thread) ? "" : ", which has ended");
 }
 
 void kupaldiz_holders(FILE *out, uint64_t number)

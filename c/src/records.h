@@ -125,6 +125,7 @@ static void enter_child(void)
 }
 
 static void end_thread(void *of);
+static void end_process(int status, void *of);
 
 static void watch(void)
 {
@@ -132,6 +133,11 @@ static void watch(void)
 		pthread_mutex_init(&tables[i].mutex, NULL);
 	pthread_atfork(lock_before_fork, unlock_after_fork, enter_child);
 	pthread_key_create(&ends, end_thread);
+#ifdef __GLIBC__
+	on_exit(end_process, NULL);
+#else
+	(void)end_process;
+#endif
 }
 
 static void watch_once(void)
@@ -332,9 +338,15 @@ static void end_registry(uint64_t registry)
 
 /* ---- The end of a thread. ---- */
 
-/* Tells of a section or a passive reference that the thread has: nobody else knows of it. */
+/*
+ * Tells of a section or a passive reference that the thread has: nobody else knows of it. A local
+ * reference may be another thread's by now.
+ */
 static void judge_end(long ended)
 {
+	if (own_sections == 0 && own_references == 0)
+		return;
+	lock_all();
 	for (const struct record *it = after(NULL); it != NULL; it = after(it)) {
 		if (it->made.call == NULL || it->made.thread != ended)
 			continue;
@@ -344,6 +356,31 @@ static void judge_end(long ended)
 			tell(&it->made, "thread %ld has ended with this reference to %s", ended,
 			    it->name);
 	}
+	unlock_all();
+}
+
+/* Tells of a local reference that was never released, as its registry is closed. */
+static void judge_locals(void)
+{
+	lock_all();
+	for (const struct record *it = after(NULL); it != NULL; it = after(it))
+		if (it->kind == LOCAL && it->forks == forks && first_of(it->registry, false) == NULL)
+			tell(&it->made, "the registry was closed with this local reference to %s",
+			    it->name);
+	unlock_all();
+}
+
+/*
+ * The thread that ends a program well, as by a return from main, ends with it. No call is under
+ * way then, except if a signal handler ends the program.
+ */
+static void end_process(int status, void *of)
+{
+	(void)of;
+	if (status != EXIT_SUCCESS || now.call != NULL)
+		return;
+	judge_end(thread);
+	judge_locals();
 }
 
 static void forget_thread(const struct thread *ended)
@@ -362,11 +399,7 @@ static void end_thread(void *of)
 	const bool is_last = ++ended->rounds >= PTHREAD_DESTRUCTOR_ITERATIONS;
 	if (!is_last && pthread_setspecific(ends, ended) == 0)
 		return;
-	if (own_sections != 0 || own_references != 0) {
-		lock_all();
-		judge_end(ended->id);
-		unlock_all();
-	}
+	judge_end(ended->id);
 	pthread_mutex_lock(&guard);
 	forget_thread(ended);
 	pthread_mutex_unlock(&guard);

@@ -13,6 +13,7 @@
 #include "child.h"
 #include "client.h"
 #include "kupaldiz_waiting.h"
+#include "wrapped_heap.h"
 
 static const struct kupaldiz_settings SETTINGS = {2, 4, 100, 100, 10, 10};
 
@@ -21,6 +22,7 @@ static struct bench {
 	struct kupaldiz_cpu cpus[2];
 } one, two;
 
+static struct kupaldiz_cpu *const cpu0 = &one.cpus[0], *const cpu1 = &one.cpus[1];
 static pthread_mutex_t mutex = PTHREAD_MUTEX_INITIALIZER;
 static struct kupaldiz_interlock interlock;	/* of one.keeper, by that mutex */
 static struct kupaldiz_name wm, wm0;
@@ -30,34 +32,34 @@ static struct kupaldiz_local local;
 static int *lines;	/* of calls, and the child's thread: the parent sees them */
 static atomic_bool is_there;
 
+#define GET(on, to)	kupaldiz_get(on, KUPALDIZ_ENTRY, &wm, to)
 #define AT(place, call)	(lines[place] = __LINE__, (call))
 
 /*
- * Which of them is the child's thread, and the seconds after which a process that hangs is ended.
+ * Which of them are the child's status and thread, and the seconds after which a process that hangs
+ * is ended.
  */
-enum { THREAD = 7, PATIENCE = 600 };
+enum { STATUS = 6, THREAD, PATIENCE = 600 };
 
 /* What a find does before the library's. */
 static void (*before_find)(void);
-enum kupaldiz_result __real_kupaldiz_find(struct kupaldiz_cpu *cpu, enum kupaldiz_kind kind,
-    const struct kupaldiz_name *name, struct kupaldiz_entry *entry);
-enum kupaldiz_result __wrap_kupaldiz_find(struct kupaldiz_cpu *cpu, enum kupaldiz_kind kind,
-    const struct kupaldiz_name *name, struct kupaldiz_entry *entry);
-enum kupaldiz_result __wrap_kupaldiz_find(struct kupaldiz_cpu *cpu, enum kupaldiz_kind kind,
+WRAPPED(kupaldiz_find);
+enum kupaldiz_result __wrap_kupaldiz_find(struct kupaldiz_cpu *on, enum kupaldiz_kind kind,
     const struct kupaldiz_name *name, struct kupaldiz_entry *entry)
 {
 	if (before_find != NULL)
 		before_find();
-	return __real_kupaldiz_find(cpu, kind, name, entry);
+	return __real_kupaldiz_find(on, kind, name, entry);
 }
 
 static void open_both(void)
 {
 	alarm(PATIENCE);
+	lines[STATUS] = EXIT_SUCCESS;
 	lines[THREAD] = (int)getpid();
 	DONE(AT(8, kupaldiz_open(&SETTINGS, &one.keeper, one.cpus, 2)));
 	DONE(AT(9, kupaldiz_open(&SETTINGS, &two.keeper, two.cpus, 2)));
-	DONE(kupaldiz_attach(&one.keeper, &one.cpus[0], &wm, 7, NULL));
+	DONE(kupaldiz_attach(&one.keeper, cpu0, &wm, 7, NULL));
 }
 
 /* Leaves a thread behind that has made this, and stays. */
@@ -77,12 +79,12 @@ static void stay(void)
 
 static void get_local(struct kupaldiz_local *to)
 {
-	DONE(kupaldiz_get_local(&one.cpus[0], KUPALDIZ_ENTRY, &wm, to));
+	DONE(kupaldiz_get_local(cpu0, KUPALDIZ_ENTRY, &wm, to));
 }
 
 static void detach(void)
 {
-	DONE(kupaldiz_detach(&one.keeper, &one.cpus[0], KUPALDIZ_ENTRY, &wm, &found));
+	DONE(kupaldiz_detach(&one.keeper, cpu0, KUPALDIZ_ENTRY, &wm, &found));
 }
 
 /* ---- Passive references. ---- */
@@ -92,69 +94,66 @@ static void detach(void)
  */
 static struct kupaldiz_passive released(void)
 {
-	struct kupaldiz_cpu *cpu = &one.cpus[0];
 	for (int i = 0; i < 5000; i++) {
-		DONE(kupaldiz_get(cpu, KUPALDIZ_ENTRY, &wm, &passive));
-		DONE(kupaldiz_release(cpu, &passive));
+		DONE(GET(cpu0, &passive));
+		DONE(kupaldiz_release(cpu0, &passive));
 	}
-	DONE(kupaldiz_get(cpu, KUPALDIZ_ENTRY, &wm, &passive));
+	DONE(GET(cpu0, &passive));
 	const struct kupaldiz_passive copy = passive;
-	DONE(AT(0, kupaldiz_release(cpu, &passive)));
-	IS(EMPTY_HANDLE, kupaldiz_release(cpu, &passive));
+	DONE(AT(0, kupaldiz_release(cpu0, &passive)));
+	IS(EMPTY_HANDLE, kupaldiz_release(cpu0, &passive));
 	get_local(&local);
-	DONE(kupaldiz_try_release_local(cpu, &local));
+	DONE(kupaldiz_try_release_local(cpu0, &local));
 	return copy;
 }
 
 static void released_twice(void)
 {
 	passive = released();
-	AT(1, kupaldiz_release(&one.cpus[0], &passive));
+	AT(1, kupaldiz_release(cpu0, &passive));
 }
 
 /* It is made again, so it has no tag. */
 static void released_twice_beside(void)
 {
 	struct kupaldiz_passive another = {0};
-	DONE(AT(2, kupaldiz_get(&one.cpus[1], KUPALDIZ_ENTRY, &wm, &another)));
+	DONE(AT(2, GET(cpu1, &another)));
 	released();
 	passive = (struct kupaldiz_passive){{.number = another.entry.number}, 0};
-	AT(1, kupaldiz_release(&one.cpus[0], &passive));
+	AT(1, kupaldiz_release(cpu0, &passive));
 }
 
 /* The library can't know it: the CPU has another one. */
 static void taken_from_another(void)
 {
-	struct kupaldiz_cpu *cpu = &one.cpus[0];
 	struct kupaldiz_passive another = {0}, copy;
-	DONE(kupaldiz_get(cpu, KUPALDIZ_ENTRY, &wm, &passive));
-	DONE(kupaldiz_copy(cpu, &passive, &another));
+	DONE(GET(cpu0, &passive));
+	DONE(kupaldiz_copy(cpu0, &passive, &another));
 	copy = passive;
-	DONE(AT(0, kupaldiz_release(cpu, &passive)));
-	AT(1, kupaldiz_release(cpu, &copy));
+	DONE(AT(0, kupaldiz_release(cpu0, &passive)));
+	AT(1, kupaldiz_release(cpu0, &copy));
 }
 
 static void copied_afterwards(void)
 {
-	struct kupaldiz_cpu *cpu = &one.cpus[0];
 	struct kupaldiz_passive another = {0}, copy;
-	DONE(kupaldiz_enter_find(cpu, KUPALDIZ_ENTRY, &wm, &found));
-	DONE(kupaldiz_acquire(cpu, &found, &passive));
+	DONE(kupaldiz_enter_find(cpu0, KUPALDIZ_ENTRY, &wm, &found));
+	DONE(kupaldiz_acquire(cpu0, &found, &passive));
 	copy = passive;
-	DONE(AT(0, kupaldiz_release(cpu, &passive)));
-	(void)!AT(1, kupaldiz_copy(cpu, &copy, &another));
+	DONE(AT(0, kupaldiz_release(cpu0, &passive)));
+	(void)!AT(1, kupaldiz_copy(cpu0, &copy, &another));
 }
 
 static void released_elsewhere(void)
 {
-	DONE(kupaldiz_enter_find(&one.cpus[0], KUPALDIZ_ENTRY, &wm, &found));
-	DONE(AT(0, kupaldiz_acquire(&one.cpus[0], &found, &passive)));
-	AT(1, kupaldiz_release(&one.cpus[1], &passive));
+	DONE(kupaldiz_enter_find(cpu0, KUPALDIZ_ENTRY, &wm, &found));
+	DONE(AT(0, kupaldiz_acquire(cpu0, &found, &passive)));
+	AT(1, kupaldiz_release(cpu1, &passive));
 }
 
 static void released_to_another(void)
 {
-	DONE(AT(0, kupaldiz_get(&one.cpus[0], KUPALDIZ_ENTRY, &wm, &passive)));
+	DONE(AT(0, GET(cpu0, &passive)));
 	AT(1, kupaldiz_release(&two.cpus[0], &passive));
 }
 
@@ -162,16 +161,16 @@ static void never_acquired(void)
 {
 	passive = (struct kupaldiz_passive){{.number = 1}, 0};
 	get_local(&local);
-	AT(0, kupaldiz_release(&one.cpus[0], &passive));
+	AT(0, kupaldiz_release(cpu0, &passive));
 }
 
 static void left_behind(void)
 {
 	struct kupaldiz_pool pool = {0};
-	struct kupaldiz_cpu *cpu;
+	struct kupaldiz_cpu *taken;
 	DONE(kupaldiz_pool_open(&pool, one.cpus, 2));
-	DONE(kupaldiz_pool_take(&pool, NULL, &cpu));
-	DONE(AT(0, kupaldiz_get(cpu, KUPALDIZ_ENTRY, &wm, &passive)));
+	DONE(kupaldiz_pool_take(&pool, NULL, &taken));
+	DONE(AT(0, GET(taken, &passive)));
 	AT(1, kupaldiz_pool_give(&pool));
 }
 
@@ -181,11 +180,11 @@ static void local_twice(void)
 {
 	get_local(&local);
 	struct kupaldiz_local copy = local, another = {0};
-	DONE(AT(0, kupaldiz_try_release_local(&one.cpus[1], &local)));
-	IS(EMPTY_HANDLE, kupaldiz_try_release_local(&one.cpus[1], &local));
+	DONE(AT(0, kupaldiz_try_release_local(cpu1, &local)));
+	IS(EMPTY_HANDLE, kupaldiz_try_release_local(cpu1, &local));
 	/* The library reuses the memory of the first one. */
 	get_local(&another);
-	(void)!AT(1, kupaldiz_try_release_local(&one.cpus[1], &copy));
+	(void)!AT(1, kupaldiz_try_release_local(cpu1, &copy));
 }
 
 static void local_copied_afterwards(void)
@@ -209,19 +208,19 @@ static void never_set(void)
 static void no_pointer(void)
 {
 	struct kupaldiz_keeper *none = NULL;
-	(void)!AT(0, kupaldiz_attach(none, &one.cpus[0], &wm0, 7, NULL));
+	(void)!AT(0, kupaldiz_attach(none, cpu0, &wm0, 7, NULL));
 }
 
 static void no_place(void)
 {
 	struct kupaldiz_passive *none = NULL;
-	(void)!AT(0, kupaldiz_get(&one.cpus[0], KUPALDIZ_ENTRY, &wm, none));
+	(void)!AT(0, GET(cpu0, none));
 }
 
 static void closed_copy(void)
 {
 	struct kupaldiz_cpu copy = one.cpus[1];
-	AT(0, kupaldiz_close(NULL, &one.cpus[1], 1));
+	AT(0, kupaldiz_close(NULL, cpu1, 1));
 	AT(1, kupaldiz_depth(&copy, NULL));
 }
 
@@ -242,8 +241,8 @@ static void two_registries(void)
 static void *find_and_stay(void *of)
 {
 	before_find = stay;
-	DONE(kupaldiz_enter(&one.cpus[0]));
-	(void)!AT(0, kupaldiz_find(&one.cpus[0], KUPALDIZ_ENTRY, &wm, NULL));
+	DONE(kupaldiz_enter(cpu0));
+	(void)!AT(0, kupaldiz_find(cpu0, KUPALDIZ_ENTRY, &wm, NULL));
 	return of;
 }
 
@@ -257,20 +256,20 @@ static void two_threads(void)
 /* Neither is in a call while the other one makes one. */
 static void *find_inside(void *of)
 {
-	(void)!AT(1, kupaldiz_find(&one.cpus[0], KUPALDIZ_ENTRY, &wm, NULL));
+	(void)!AT(1, kupaldiz_find(cpu0, KUPALDIZ_ENTRY, &wm, NULL));
 	return of;
 }
 
 static void two_threads_in_a_section(void)
 {
-	DONE(AT(0, kupaldiz_enter(&one.cpus[0])));
+	DONE(AT(0, kupaldiz_enter(cpu0)));
 	joined(started(find_inside, NULL));
 }
 
 static void *look_up_often(void *of)
 {
 	for (;;)
-		DONE(AT(0, kupaldiz_look_up(&one.cpus[0], KUPALDIZ_ENTRY, &wm, NULL)));
+		DONE(AT(0, kupaldiz_look_up(cpu0, KUPALDIZ_ENTRY, &wm, NULL)));
 	return of;
 }
 
@@ -280,7 +279,7 @@ static void two_threads_without_a_lock(void)
 	look_up_often(NULL);
 }
 
-static void *attach_often(void *of)
+static void *use_keeper_often(void *of)
 {
 	for (;;)
 		DONE(AT(0, kupaldiz_settings_of(&one.keeper, NULL)));
@@ -289,13 +288,13 @@ static void *attach_often(void *of)
 
 static void changes_without_a_lock(void)
 {
-	started(attach_often, NULL);
-	attach_often(NULL);
+	started(use_keeper_often, NULL);
+	use_keeper_often(NULL);
 }
 
 static void *end_inside(void *of)
 {
-	DONE(AT(0, kupaldiz_enter(&one.cpus[0])));
+	DONE(AT(0, kupaldiz_enter(cpu0)));
 	lines[THREAD] = (int)syscall(SYS_gettid);
 	return of;
 }
@@ -307,7 +306,7 @@ static void ended_inside(void)
 
 static void *end_holding(void *of)
 {
-	DONE(AT(0, kupaldiz_get(&one.cpus[0], KUPALDIZ_ENTRY, &wm, &passive)));
+	DONE(AT(0, GET(cpu0, &passive)));
 	lines[THREAD] = (int)syscall(SYS_gettid);
 	return of;
 }
@@ -317,17 +316,52 @@ static void ended_holding(void)
 	joined(started(end_holding, NULL));
 }
 
+/* The thread that ends the program ends, too. */
+static void program_ended_holding(void)
+{
+	DONE(AT(0, GET(cpu0, &passive)));
+	exit(EXIT_SUCCESS);
+}
+
+static void program_failed(void)
+{
+	lines[STATUS] = EXIT_FAILURE;
+	DONE(GET(cpu0, &passive));
+	exit(EXIT_FAILURE);
+}
+
+static void left_local(void)
+{
+	DONE(AT(0, kupaldiz_get_local(cpu0, KUPALDIZ_ENTRY, &wm, &local)));
+	DONE(kupaldiz_close(&one.keeper, one.cpus, 2));
+	exit(EXIT_SUCCESS);
+}
+
+/* It may be another thread's: it is shown. */
+static void *end_counting(void *of)
+{
+	DONE(AT(0, kupaldiz_get_local(cpu0, KUPALDIZ_ENTRY, &wm, &local)));
+	lines[THREAD] = (int)syscall(SYS_gettid);
+	return of;
+}
+
+static void ended_counting(void)
+{
+	joined(started(end_counting, NULL));
+	kupaldiz_holders(stderr, local.entry.number);
+}
+
 static void waits_for_own(void)
 {
-	DONE(AT(0, kupaldiz_get(&one.cpus[0], KUPALDIZ_ENTRY, &wm, &passive)));
+	DONE(AT(0, GET(cpu0, &passive)));
 	detach();
-	(void)!AT(1, kupaldiz_destroy_wait(&interlock, &one.cpus[1], found.number, NULL, NULL));
+	(void)!AT(1, kupaldiz_destroy_wait(&interlock, cpu1, found.number, NULL, NULL));
 }
 
 static void handle_signal(int number)
 {
 	(void)number;
-	AT(1, kupaldiz_depth(&one.cpus[1], NULL));
+	AT(1, kupaldiz_depth(cpu1, NULL));
 }
 
 static void raise_signal(void)
@@ -340,8 +374,8 @@ static void in_a_signal(void)
 	const struct sigaction action = {.sa_handler = handle_signal};
 	EXPECT(sigaction(SIGUSR1, &action, NULL) == 0);
 	before_find = raise_signal;
-	DONE(kupaldiz_enter(&one.cpus[0]));
-	(void)!AT(0, kupaldiz_find(&one.cpus[0], KUPALDIZ_ENTRY, &wm, NULL));
+	DONE(kupaldiz_enter(cpu0));
+	(void)!AT(0, kupaldiz_find(cpu0, KUPALDIZ_ENTRY, &wm, NULL));
 }
 
 static void in_a_child(void)
@@ -351,7 +385,7 @@ static void in_a_child(void)
 	EXPECT(child >= 0);
 	alarm(PATIENCE);
 	if (child == 0)
-		AT(0, kupaldiz_depth(&one.cpus[0], NULL));
+		AT(0, kupaldiz_depth(cpu0, NULL));
 	EXPECT(child == 0 || waitpid(child, &status, 0) == child);
 	if (child != 0 && WIFSIGNALED(status))
 		abort();
@@ -362,17 +396,17 @@ static void cancelled_anywhere(void)
 	int type, state;
 	EXPECT(pthread_setcancelstate(PTHREAD_CANCEL_DISABLE, &state) == 0);
 	EXPECT(pthread_setcanceltype(PTHREAD_CANCEL_ASYNCHRONOUS, &type) == 0);
-	DONE(kupaldiz_depth(&one.cpus[0], NULL));
+	DONE(kupaldiz_depth(cpu0, NULL));
 	EXPECT(pthread_setcanceltype(PTHREAD_CANCEL_ASYNCHRONOUS, &type) == 0);
 	EXPECT(type == PTHREAD_CANCEL_ASYNCHRONOUS);
 	EXPECT(pthread_setcancelstate(PTHREAD_CANCEL_ENABLE, &state) == 0);
-	AT(0, kupaldiz_depth(&one.cpus[0], NULL));
+	AT(0, kupaldiz_depth(cpu0, NULL));
 }
 
 static void overlapping(void)
 {
 	found.name = wm;
-	(void)!AT(0, kupaldiz_look_up(&one.cpus[0], KUPALDIZ_ENTRY, &found.name, &found));
+	(void)!AT(0, kupaldiz_look_up(cpu0, KUPALDIZ_ENTRY, &found.name, &found));
 }
 
 /* ---- The interlock and sections. ---- */
@@ -380,7 +414,7 @@ static void overlapping(void)
 static void told_interlock(void)
 {
 	AT(0, kupaldiz_check_interlock(&one.keeper, &mutex));
-	(void)!AT(1, kupaldiz_attach(&one.keeper, &one.cpus[0], &wm0, 7, NULL));
+	(void)!AT(1, kupaldiz_attach(&one.keeper, cpu0, &wm0, 7, NULL));
 }
 
 static void append_without(void)
@@ -394,7 +428,7 @@ static void append_without(void)
 
 static void *wait_once(void *of)
 {
-	DONE(AT(0, kupaldiz_perform_wait(&interlock, &one.cpus[1], NULL, NULL)));
+	DONE(AT(0, kupaldiz_perform_wait(&interlock, cpu1, NULL, NULL)));
 	return of;
 }
 
@@ -415,29 +449,29 @@ static void waits_for_itself(void)
 {
 	pthread_mutex_lock(&mutex);
 	get_local(&local);
-	AT(0, kupaldiz_release_local(&interlock, &one.cpus[0], &local));
+	AT(0, kupaldiz_release_local(&interlock, cpu0, &local));
 }
 
 static void open_at_close(void)
 {
-	DONE(AT(0, kupaldiz_enter(&one.cpus[1])));
-	DONE(kupaldiz_enter(&one.cpus[1]));
-	DONE(kupaldiz_exit(&one.cpus[1]));
+	DONE(AT(0, kupaldiz_enter(cpu1)));
+	DONE(kupaldiz_enter(cpu1));
+	DONE(kupaldiz_exit(cpu1));
 	AT(1, kupaldiz_close(&one.keeper, one.cpus, 2));
 }
 
 static void waits_inside(void)
 {
-	DONE(AT(0, kupaldiz_enter_find(&one.cpus[1], KUPALDIZ_ENTRY, &wm, NULL)));
+	DONE(AT(0, kupaldiz_enter_find(cpu1, KUPALDIZ_ENTRY, &wm, NULL)));
 	detach();
-	(void)!AT(1, kupaldiz_destroy_wait(&interlock, &one.cpus[0], found.number, NULL, NULL));
+	(void)!AT(1, kupaldiz_destroy_wait(&interlock, cpu0, found.number, NULL, NULL));
 }
 
 static void barrier_inside(void)
 {
 	struct kupaldiz_entry row[1];
 	struct kupaldiz_deferred list = {.interlock = &interlock, .entries = row, .room = 1};
-	DONE(AT(0, kupaldiz_enter(&one.cpus[1])));
+	DONE(AT(0, kupaldiz_enter(cpu1)));
 	detach();
 	DONE(kupaldiz_deferred_add(&list, &found));
 	(void)!AT(1, kupaldiz_deferred_barrier(&list, NULL));
@@ -458,13 +492,13 @@ static void give(void *of)
 /* It waits while another thread is inside a section, by a lock that is no mutex. */
 static void *copy_and_release(void *of)
 {
-	const struct kupaldiz_interlock other = {&one.keeper, take, give, NULL};
+	const struct kupaldiz_interlock unknown = {&one.keeper, take, give, NULL};
 	const struct timespec past = {0, 0};
 	struct kupaldiz_passive copy = {0};
-	IS(WAITING, kupaldiz_perform_wait(&other, &one.cpus[0], &past, NULL));
-	DONE(kupaldiz_copy(&one.cpus[0], &passive, &copy));
+	IS(WAITING, kupaldiz_perform_wait(&unknown, cpu0, &past, NULL));
+	DONE(kupaldiz_copy(cpu0, &passive, &copy));
 	stay();
-	DONE(kupaldiz_release(&one.cpus[0], &copy));
+	DONE(kupaldiz_release(cpu0, &copy));
 	atomic_store(&is_there, true);
 	return of;
 }
@@ -472,24 +506,24 @@ static void *copy_and_release(void *of)
 /* A release takes the thread's own reference, and a close takes all that are passive. */
 static void who_holds(void)
 {
-	struct kupaldiz_passive copy = {0}, other = {0};
+	struct kupaldiz_passive copy = {0}, last = {0};
 	struct kupaldiz_local shared = {0};
-	DONE(AT(0, kupaldiz_get(&one.cpus[0], KUPALDIZ_ENTRY, &wm, &passive)));
-	DONE(AT(2, kupaldiz_enter_find(&one.cpus[1], KUPALDIZ_ENTRY, &wm, &found)));
+	DONE(AT(0, GET(cpu0, &passive)));
+	DONE(AT(2, kupaldiz_enter_find(cpu1, KUPALDIZ_ENTRY, &wm, &found)));
 	beside(copy_and_release);
-	DONE(AT(1, kupaldiz_copy(&one.cpus[0], &passive, &copy)));
+	DONE(AT(1, kupaldiz_copy(cpu0, &passive, &copy)));
 	atomic_store(&is_there, false);
 	while (!atomic_load(&is_there))
 		rest();
-	DONE(AT(3, kupaldiz_acquire_local(&one.cpus[1], &found, &local)));
-	DONE(kupaldiz_attach(&one.keeper, &one.cpus[0], &wm0, 7, NULL));
-	DONE(kupaldiz_get(&one.cpus[0], KUPALDIZ_ENTRY, &wm0, &other));
+	DONE(AT(3, kupaldiz_acquire_local(cpu1, &found, &local)));
+	DONE(kupaldiz_attach(&one.keeper, cpu0, &wm0, 7, NULL));
+	DONE(kupaldiz_get(cpu0, KUPALDIZ_ENTRY, &wm0, &last));
 	kupaldiz_holders(stderr, found.number);
 	DONE(kupaldiz_copy_local(&local, &shared));
-	DONE(kupaldiz_try_release_local(&one.cpus[0], &local));
-	DONE(kupaldiz_exit(&one.cpus[1]));
+	DONE(kupaldiz_try_release_local(cpu0, &local));
+	DONE(kupaldiz_exit(cpu1));
 	DONE(kupaldiz_forget_local(&shared));
-	DONE(kupaldiz_close(NULL, &one.cpus[0], 1));
+	DONE(kupaldiz_close(NULL, cpu0, 1));
 	kupaldiz_holders(stderr, found.number);
 	DONE(kupaldiz_close(&one.keeper, one.cpus, 2));
 	kupaldiz_holders(stderr, found.number);
@@ -502,12 +536,12 @@ static void who_holds(void)
 static void *take_over(void *of)
 {
 	struct kupaldiz_local moved = local;
-	DONE(kupaldiz_release_local(&interlock, &one.cpus[1], &moved));
-	DONE(kupaldiz_release(&one.cpus[0], &passive));
+	DONE(kupaldiz_release_local(&interlock, cpu1, &moved));
+	DONE(kupaldiz_release(cpu0, &passive));
 	DONE(kupaldiz_enter(&two.cpus[0]));
 	wait_once(of);
 	DONE(kupaldiz_exit(&two.cpus[0]));
-	DONE(kupaldiz_attach(&one.keeper, &one.cpus[0], &wm0, 7, NULL));
+	DONE(kupaldiz_attach(&one.keeper, cpu0, &wm0, 7, NULL));
 	return of;
 }
 
@@ -515,30 +549,29 @@ static void *take_over(void *of)
 static void handed_over(void)
 {
 	struct kupaldiz_cpu moved = one.cpus[0];
-	DONE(kupaldiz_get(&moved, KUPALDIZ_ENTRY, &wm, &passive));
+	DONE(GET(&moved, &passive));
 	const uint64_t number = passive.entry.number;
 	one.cpus[0] = moved;
 	get_local(&local);
 	joined(started(take_over, NULL));
 	kupaldiz_holders(stderr, number);
 	detach();
-	IS(OUTSIDE, kupaldiz_exit(&one.cpus[0]));
-	IS(EMPTY_HANDLE, kupaldiz_release(&one.cpus[0], &passive));
+	IS(OUTSIDE, kupaldiz_exit(cpu0));
+	IS(EMPTY_HANDLE, kupaldiz_release(cpu0, &passive));
 	DONE(kupaldiz_close(&one.keeper, one.cpus, 2));
 	DONE(kupaldiz_close(&one.keeper, one.cpus, 2));
-	IS(EMPTY_HANDLE, kupaldiz_enter(&one.cpus[0]));
+	IS(EMPTY_HANDLE, kupaldiz_enter(cpu0));
 }
 
 /* A reference that was lost is made again, without a tag. It has its CPU's number. */
 static void made_again(void)
 {
-	struct kupaldiz_cpu *cpu = &one.cpus[1];
 	struct kupaldiz_passive lost = {0}, copy = {0};
-	DONE(kupaldiz_get(cpu, KUPALDIZ_ENTRY, &wm, &lost));
+	DONE(GET(cpu1, &lost));
 	passive = (struct kupaldiz_passive){{.number = lost.entry.number}, 1};
-	DONE(kupaldiz_copy(cpu, &passive, &copy));
-	DONE(kupaldiz_release(cpu, &copy));
-	DONE(kupaldiz_release(cpu, &passive));
+	DONE(kupaldiz_copy(cpu1, &passive, &copy));
+	DONE(kupaldiz_release(cpu1, &copy));
+	DONE(kupaldiz_release(cpu1, &passive));
 	kupaldiz_holders(stderr, lost.entry.number);
 }
 
@@ -553,9 +586,9 @@ static void *visit(void *of)
 static void given_back(void)
 {
 	struct kupaldiz_pool pool = {0}, others = {0};
-	DONE(kupaldiz_get(&one.cpus[0], KUPALDIZ_ENTRY, &wm, &passive));
-	DONE(kupaldiz_pool_open(&pool, &one.cpus[0], 1));
-	DONE(kupaldiz_pool_open(&others, &one.cpus[1], 1));
+	DONE(GET(cpu0, &passive));
+	DONE(kupaldiz_pool_open(&pool, cpu0, 1));
+	DONE(kupaldiz_pool_open(&others, cpu1, 1));
 	joined(started(visit, &pool));
 	visit(&others);
 }
@@ -577,7 +610,7 @@ static void largest(void)
 	DONE(kupaldiz_destroy(&keeper, found.number, &met));
 	EXPECT(met.stage == KUPALDIZ_FREED && met.what == 0);
 	DONE(kupaldiz_look_up(&cpus[0], KUPALDIZ_ENTRY, &wm, row));
-	DONE(kupaldiz_get(&cpus[0], KUPALDIZ_ENTRY, &wm, &passive));
+	DONE(GET(&cpus[0], &passive));
 	DONE(kupaldiz_held(&cpus[0], row->number, &held));
 	EXPECT(held && row->value == 7);
 	DONE(kupaldiz_release(&cpus[0], &passive));
@@ -637,101 +670,109 @@ struct row {
 	const char *says;
 };
 
+#define ROW(body, says)	{#body, body, says}
+
 static const struct row ROWS[] = {
-	{"a reference released twice", released_twice,
-	    "@1: kupaldiz_release: wm's reference 1 was released already at @0\n"},
-	{"the same, and another CPU has one", released_twice_beside,
+	ROW(released_twice,
+	    "@1: kupaldiz_release: wm's reference 1 was released already at @0\n"),
+	ROW(released_twice_beside,
 	    "@1: kupaldiz_release: wm's reference 1 was released already at @0; wm's reference "
-	    "1 is CPU 1's, acquired at @2\n"},
-	{"the same, and the CPU has another", taken_from_another,
-	    "@1: kupaldiz_release: wm's reference 1 was released already at @0\n"},
-	{"copied after its release", copied_afterwards,
-	    "@1: kupaldiz_copy: wm's reference 1 was released already at @0\n"},
-	{"on another CPU", released_elsewhere,
+	    "1 is CPU 1's, acquired at @2\n"),
+	ROW(taken_from_another,
+	    "@1: kupaldiz_release: wm's reference 1 was released already at @0\n"),
+	ROW(copied_afterwards,
+	    "@1: kupaldiz_copy: wm's reference 1 was released already at @0\n"),
+	ROW(released_elsewhere,
 	    "@1: kupaldiz_release: wm's reference 1 is CPU 0's, acquired at @0, and this is "
-	    "CPU 1\n"},
-	{"of another registry", released_to_another,
+	    "CPU 1\n"),
+	ROW(released_to_another,
 	    "@1: kupaldiz_release: wm's reference 1, acquired at @0, is of the registry opened "
-	    "at @8, and this is CPU 0\n"},
-	{"never acquired", never_acquired,
-	    "@0: kupaldiz_release: CPU 0 never acquired a reference 1\n"},
-	{"left behind", left_behind,
-	    "@1: kupaldiz_pool_give: wm's reference 1, acquired at @0, stays on CPU 0\n"},
-	{"a local reference released twice", local_twice,
-	    "@1: kupaldiz_try_release_local: wm's local reference was released already at @0\n"},
-	{"a local reference copied too late", local_copied_afterwards,
-	    "@1: kupaldiz_copy_local: wm's local reference was released already at @0\n"},
-	{"a handle that was never set", never_set,
-	    "@0: kupaldiz_enter: the handle of the CPU is neither {0} nor what a call has set\n"},
-	{"no handle", no_pointer,
-	    "@0: kupaldiz_attach: the pointer to the handle of the keeper is NULL\n"},
-	{"no place for a reference", no_place,
-	    "@0: kupaldiz_get: the pointer to the handle of the passive reference is NULL\n"},
-	{"a copy of a closed CPU", closed_copy,
-	    "@1: kupaldiz_depth: the CPU was closed at @0, and this is a copy of its handle\n"},
-	{"a closed registry", closed_registry,
+	    "at @8, and this is CPU 0\n"),
+	ROW(never_acquired,
+	    "@0: kupaldiz_release: CPU 0 never acquired a reference 1\n"),
+	ROW(left_behind,
+	    "@1: kupaldiz_pool_give: wm's reference 1, acquired at @0, stays on CPU 0\n"),
+	ROW(local_twice,
+	    "@1: kupaldiz_try_release_local: wm's local reference was released already at @0\n"),
+	ROW(local_copied_afterwards,
+	    "@1: kupaldiz_copy_local: wm's local reference was released already at @0\n"),
+	ROW(never_set,
+	    "@0: kupaldiz_enter: the handle of the CPU is neither {0} nor what a call has set\n"),
+	ROW(no_pointer,
+	    "@0: kupaldiz_attach: the pointer to the handle of the keeper is NULL\n"),
+	ROW(no_place,
+	    "@0: kupaldiz_get: the pointer to the handle of the passive reference is NULL\n"),
+	ROW(closed_copy,
+	    "@1: kupaldiz_depth: the CPU was closed at @0, and this is a copy of its handle\n"),
+	ROW(closed_registry,
 	    "@1: kupaldiz_perform_wait: the keeper was closed at @0, and this is a copy of its "
-	    "handle\n"},
-	{"two registries", two_registries,
+	    "handle\n"),
+	ROW(two_registries,
 	    "@0: kupaldiz_attach: the CPU is of the registry opened at @9, and the keeper of "
-	    "the one opened at @8\n"},
-	{"two threads", two_threads,
-	    "@1: kupaldiz_depth: another thread uses the CPU: kupaldiz_find at @0\n"},
-	{"two threads, one in a section", two_threads_in_a_section,
+	    "the one opened at @8\n"),
+	ROW(two_threads,
+	    "@1: kupaldiz_depth: another thread uses the CPU: kupaldiz_find at @0\n"),
+	ROW(two_threads_in_a_section,
 	    "@1: kupaldiz_find: the CPU is another thread's, which is inside the section that "
-	    "began at @0\n"},
-	{"two threads without a lock", two_threads_without_a_lock,
-	    "@0: kupaldiz_look_up: another thread uses the CPU: kupaldiz_look_up at @0\n"},
-	{"changes without a lock", changes_without_a_lock,
+	    "began at @0\n"),
+	ROW(two_threads_without_a_lock,
+	    "@0: kupaldiz_look_up: another thread uses the CPU: kupaldiz_look_up at @0\n"),
+	ROW(changes_without_a_lock,
 	    "@0: kupaldiz_settings_of: another thread uses the keeper: kupaldiz_settings_of at "
-	    "@0\n"},
-	{"a thread ends in a section", ended_inside,
-	    "@0: kupaldiz_enter: thread @t has ended inside this section\n"},
-	{"a thread ends with a reference", ended_holding,
-	    "@0: kupaldiz_get: thread @t has ended with this reference to wm\n"},
-	{"a wait for one's own reference", waits_for_own,
+	    "@0\n"),
+	ROW(ended_inside,
+	    "@0: kupaldiz_enter: thread @t has ended inside this section\n"),
+	ROW(ended_holding,
+	    "@0: kupaldiz_get: thread @t has ended with this reference to wm\n"),
+	ROW(program_ended_holding,
+	    "@0: kupaldiz_get: thread @t has ended with this reference to wm\n"),
+	ROW(program_failed, ""),
+	ROW(left_local,
+	    "@0: kupaldiz_get_local: the registry was closed with this local reference to wm\n"),
+	ROW(ended_counting, "local, CPU 0, @0, thread @t, which has ended\n"),
+	ROW(waits_for_own,
 	    "@1: kupaldiz_destroy_wait: this thread's own reference holds the entry: wm's "
-	    "reference 1, acquired at @0\n"},
-	{"in a signal handler", in_a_signal,
-	    "@1: kupaldiz_depth: a signal handler makes this call, within kupaldiz_find at @0\n"},
-	{"in a child", in_a_child,
+	    "reference 1, acquired at @0\n"),
+	ROW(in_a_signal,
+	    "@1: kupaldiz_depth: a signal handler makes this call, within kupaldiz_find at @0\n"),
+	ROW(in_a_child,
 	    "@0: kupaldiz_depth: the registry was opened at @8, before the fork of this "
-	    "process\n"},
-	{"asynchronous cancellation", cancelled_anywhere,
-	    "@0: kupaldiz_depth: asynchronous cancellation of this thread is enabled\n"},
-	{"overlapping pointers", overlapping,
-	    "@0: kupaldiz_look_up: the name lies within the entry that the call writes\n"},
-	{"without the interlock", told_interlock,
+	    "process\n"),
+	ROW(cancelled_anywhere,
+	    "@0: kupaldiz_depth: asynchronous cancellation of this thread is enabled\n"),
+	ROW(overlapping,
+	    "@0: kupaldiz_look_up: the name lies within the entry that the call writes\n"),
+	ROW(told_interlock,
 	    "@1: kupaldiz_attach: this thread doesn't hold the keeper's interlock, known by "
-	    "kupaldiz_check_interlock at @0\n"},
-	{"an append without it", append_without,
+	    "kupaldiz_check_interlock at @0\n"),
+	ROW(append_without,
 	    "@1: kupaldiz_deferred_add: this thread doesn't hold the keeper's interlock, known "
-	    "by kupaldiz_check_interlock at @0\n"},
-	{"without the interlock of a wait", learned_interlock,
+	    "by kupaldiz_check_interlock at @0\n"),
+	ROW(learned_interlock,
 	    "@1: kupaldiz_settings_of: this thread doesn't hold the keeper's interlock, known "
-	    "by kupaldiz_perform_wait at @0\n"},
-	{"with the interlock in a call that takes it", waits_for_itself,
+	    "by kupaldiz_perform_wait at @0\n"),
+	ROW(waits_for_itself,
 	    "@0: kupaldiz_release_local: this thread holds the interlock, which the call "
-	    "takes\n"},
-	{"a section at the close", open_at_close,
-	    "@1: kupaldiz_close: CPU 1 is inside the section that began at @0\n"},
-	{"a wait in a section", waits_inside,
+	    "takes\n"),
+	ROW(open_at_close,
+	    "@1: kupaldiz_close: CPU 1 is inside the section that began at @0\n"),
+	ROW(waits_inside,
 	    "@1: kupaldiz_destroy_wait: this thread is inside the section that began on CPU 1 "
-	    "at @0\n"},
-	{"a barrier in a section", barrier_inside,
+	    "at @0\n"),
+	ROW(barrier_inside,
 	    "@1: kupaldiz_deferred_barrier: this thread is inside the section that began on "
-	    "CPU 1 at @0\n"},
-	{"who holds", who_holds,
+	    "CPU 1 at @0\n"),
+	ROW(who_holds,
 	    "local, CPU 1, @3, thread @t\n"
 	    "passive, CPU 0, @1, thread @t\npassive, CPU 0, @0, thread @t\n"
 	    "section, CPU 1, @2, thread @t\n"
-	    "passive, CPU 0, @1, thread @t\npassive, CPU 0, @0, thread @t\n"},
-	{"handed over", handed_over, ""},
-	{"made again", made_again, ""},
-	{"given back", given_back, ""},
-	{"the largest registry", largest, ""},
-	{"told that no interlock is needed", without_interlock, ""},
-	{"a recursive interlock, and a child's registry", recursive, ""},
+	    "passive, CPU 0, @1, thread @t\npassive, CPU 0, @0, thread @t\n"),
+	ROW(handed_over, ""),
+	ROW(made_again, ""),
+	ROW(given_back, ""),
+	ROW(largest, ""),
+	ROW(without_interlock, ""),
+	ROW(recursive, ""),
 };
 
 /* The text with places and the thread in it. */
@@ -754,7 +795,8 @@ static void fill(char *filled, size_t room, const char *text)
 static bool is_as(const struct row *row, const char *said, const char *wanted, int status)
 {
 	if (row->says[0] != '@')
-		return strcmp(said, wanted) == 0 && status == 0;
+		return strcmp(said, wanted) == 0 && WIFEXITED(status) &&
+		    WEXITSTATUS(status) == lines[STATUS];
 	return strncmp(said, wanted, strlen(wanted)) == 0 && WIFSIGNALED(status) &&
 	    WTERMSIG(status) == SIGABRT;
 }

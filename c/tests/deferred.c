@@ -1,42 +1,109 @@
 /*
- * deferred - the list of kupaldiz_waiting.h in random orders, beside the plain model of model.h:
- * what it frees, in which order, and what stays on it
+ * deferred - the list of kupaldiz_waiting.h in random orders: which turns it makes, what it frees
+ * and calls, in which order, and what stays in it
  *
  *     deferred [ROUNDS [SEED]]
  *
- * CPU 0 holds entries by sections and passive references, and another thread's work on retired
+ * The linker leads kupaldiz_destroy here (--wrap): a free makes one turn of each entry that waits,
+ * oldest first, and frees those that a turn says nothing holds. Each call that waits knows which
+ * sections were open as it was added. It is made once all of them have ended, and no earlier; in
+ * the order in which the calls were added; and by one free, if no section is open.
+ *
+ * Readers hold entries by sections and passive references, and another thread's work on retired
  * entries is played by destroys beside the list, also between the turns of a barrier. The list's
  * row is longer or shorter than what waits, and its keeper is now and then another registry's, or
- * none. later.c has the calls of a list.
+ * none.
  */
+#include "client.h"
 #include "dice.h"
-#include "model.h"
 #include "kupaldiz_waiting.h"
+#include "wrapped_heap.h"
 
-enum { NAMES = SLOTS };
+enum { SLOTS = 32, NAMES = SLOTS, HELD = 16, MOST_CALLS = 64 };
 
-static struct model model;
+/* The CPUs: of the readers, of whoever changes the registry, and the list's. */
+enum { READERS = 3, CHANGER = READERS, OF_LIST, CPUS };
+
 static struct kupaldiz_keeper keeper;
-static struct kupaldiz_cpu cpus[2];
+static struct kupaldiz_cpu cpus[CPUS], closed;
 static struct kupaldiz_name names[NAMES];
+static struct kupaldiz_passive held[HELD];	/* by the first reader */
 
-/* What the list told as freed, and what the model's list has. */
-struct told {
+/* How many sections each reader has entered and exited: an odd number is an open one. */
+static uint64_t sections[READERS];
+
+struct entries {
 	size_t count;
-	struct kupaldiz_entry entries[SLOTS];
+	struct kupaldiz_entry at[SLOTS];
 };
 
-static struct told told;
-static struct told waiting;
-static size_t most_freed;
+/*
+ * What waits in the list, and what is retired and found no place in it. Of the list's turns under
+ * way, what they freed, and what they left.
+ */
+static struct entries waiting, homeless, gone, left;
+static bool is_under_way;
+static size_t told, most_freed;
 
-static void note(void *of, const struct kupaldiz_entry *gone)
+static void push(struct entries *to, const struct kupaldiz_entry *entry)
 {
-	EXPECT(of == &told && told.count < SLOTS);
-	told.entries[told.count++] = *gone;
+	EXPECT(to->count < SLOTS);
+	to->at[to->count++] = *entry;
 }
 
-/* One thread runs: nobody takes the interlock, except where it says so. */
+/* One turn of each that waits, in its order. */
+WRAPPED(kupaldiz_destroy);
+enum kupaldiz_result __wrap_kupaldiz_destroy(struct kupaldiz_keeper *of, uint64_t number,
+    struct kupaldiz_met *met)
+{
+	const enum kupaldiz_result result = __real_kupaldiz_destroy(of, number, met);
+	if (!is_under_way)
+		return result;
+	const size_t turn = gone.count + left.count;
+	EXPECT(of == &keeper && turn < waiting.count && waiting.at[turn].number == number);
+	push(result == KUPALDIZ_STILL_HELD ? &left : &gone, &waiting.at[turn]);
+	return result;
+}
+
+/* The list tells what the last turn has freed. */
+static void note(void *of, const struct kupaldiz_entry *entry)
+{
+	EXPECT(of == &told && told + 1 == gone.count && same_entry(entry, &gone.at[told]));
+	told++;
+}
+
+/* A call: its place in the order, and the section of each reader that was open, or 0. */
+struct thing {
+	struct kupaldiz_call call;	/* the first member: a thing is found by it */
+	uint64_t place;
+	uint64_t open[READERS];
+};
+
+/* How many calls there ever were. */
+static uint64_t added, called;
+
+static bool is_held(const struct thing *thing)
+{
+	for (unsigned i = 0; i < READERS; i++)
+		if (thing->open[i] != 0 && thing->open[i] == sections[i])
+			return true;
+	return false;
+}
+
+static bool is_any_inside(void)
+{
+	return sections[0] % 2 + sections[1] % 2 + sections[2] % 2 != 0;
+}
+
+/* It may free what it lies in. */
+static void make_call(struct kupaldiz_call *call)
+{
+	struct thing *thing = (struct thing *)call;
+	EXPECT(is_under_way && thing->place == called++ && !is_held(thing));
+	memset(thing, 0xdb, sizeof *thing);
+	free(thing);
+}
+
 static void pass(void *of)
 {
 	(void)of;
@@ -44,59 +111,40 @@ static void pass(void *of)
 
 static const struct kupaldiz_interlock interlock = {&keeper, pass, pass, NULL};
 static struct kupaldiz_entry row[SLOTS];
-static struct kupaldiz_deferred list = {.interlock = &interlock, .entries = row, .room = SLOTS,
-    .freed = note, .of = &told};
+static struct kupaldiz_deferred list = {.interlock = &interlock, .cpu = &cpus[OF_LIST],
+    .entries = row, .room = SLOTS, .freed = note, .of = &told};
 
-/* A call and the model's return the same. */
-#define SAME(call, of_model)			\
-	do {					\
-		model.said = (call);		\
-		EXPECT(model.said == (of_model));	\
-	} while (0)
-
-/*
- * Whether the model's list has to let the entry go now, which is added to `freed`: it is free, or
- * others have freed it.
- */
-static bool is_over(const struct kupaldiz_entry *entry, struct told *freed)
+static void expect_list(void)
 {
-	struct kupaldiz_met met;
-	if (model_destroy(&model, entry->number, &met) == KUPALDIZ_STILL_HELD)
-		return false;
-	freed->entries[freed->count++] = *entry;
-	return true;
+	EXPECT(kupaldiz_deferred_count(&list) == waiting.count + added - called);
+	EXPECT(same_entries(list.entries, waiting.at, waiting.count));
 }
 
-/* What a free frees, by the model: one turn of each that waits, oldest first. */
-static struct told freed_first(void)
+static void begin_turns(void)
 {
-	struct told freed = {0}, left = {0};
-	for (size_t i = 0; i < waiting.count; i++)
-		if (!is_over(&waiting.entries[i], &freed))
-			left.entries[left.count++] = waiting.entries[i];
+	gone.count = left.count = told = 0;
+	is_under_way = true;
+}
+
+static void end_turns(void)
+{
+	is_under_way = false;
+	EXPECT(told == gone.count && gone.count + left.count == waiting.count);
 	waiting = left;
-	return freed;
-}
-
-/* The list told exactly what the model says, in its order, and has what the model's list has. */
-static void expect_list(const struct told *freed)
-{
-	EXPECT(told.count == freed->count);
-	EXPECT(same_entries(told.entries, freed->entries, freed->count));
-	EXPECT(kupaldiz_deferred_count(&list) == waiting.count);
-	EXPECT(same_entries(list.entries, waiting.entries, waiting.count));
-	most_freed = freed->count > most_freed ? freed->count : most_freed;
-	told.count = 0;
+	expect_list();
+	most_freed = gone.count > most_freed ? gone.count : most_freed;
 }
 
 static void free_all(void)
 {
 	size_t count = 99;
+	begin_turns();
 	DONE(kupaldiz_deferred_free(&list, &count));
-	struct told freed = freed_first();
-	EXPECT(count == freed.count);
-	expect_list(&freed);
+	end_turns();
+	EXPECT(count == gone.count && (called == added || is_any_inside()));
 }
+
+/* ---- Deeds, of which some can't be done. ---- */
 
 static const struct kupaldiz_name *any_name(void)
 {
@@ -110,44 +158,32 @@ static enum kupaldiz_kind any_kind(void)
 
 static void attach(void)
 {
-	struct kupaldiz_entry made = {0}, wanted = {0};
-	const struct kupaldiz_name *name = any_name();
 	free_all();
-	SAME(kupaldiz_attach(&keeper, &cpus[1], name, 7, &made),
-	    model_bring(&model, 1, NULL, name, 7, NULL, &wanted));
-	EXPECT(same_entry(&made, &wanted));
+	(void)!kupaldiz_attach(&keeper, &cpus[CHANGER], any_name(), 7, NULL);
 }
 
 static void attach_iface(void)
 {
-	struct kupaldiz_entry made = {0}, wanted = {0};
-	const struct kupaldiz_name *on = any_name(), *name = any_name();
+	const struct kupaldiz_name *on = any_name();
 	free_all();
-	SAME(kupaldiz_attach_iface(&keeper, &cpus[1], on, name, 8, &made),
-	    model_bring(&model, 1, on, name, 8, NULL, &wanted));
-	EXPECT(same_entry(&made, &wanted));
+	(void)!kupaldiz_attach_iface(&keeper, &cpus[CHANGER], on, any_name(), 8, NULL);
 }
 
 /* What is gone waits in the list, if its row isn't full. */
-static void append(const struct kupaldiz_entry *gone)
+static void append(const struct kupaldiz_entry *entry)
 {
 	const bool is_full = waiting.count == list.room;
-	const struct told none = {0};
 	IS(NULL, kupaldiz_deferred_add(&list, NULL));
-	EXPECT(kupaldiz_deferred_add(&list, gone) == (is_full ? KUPALDIZ_NO_ROOM : KUPALDIZ_DONE));
-	if (!is_full)
-		waiting.entries[waiting.count++] = *gone;
-	expect_list(&none);
+	EXPECT(kupaldiz_deferred_add(&list, entry) == (is_full ? KUPALDIZ_NO_ROOM : KUPALDIZ_DONE));
+	push(is_full ? &homeless : &waiting, entry);
+	expect_list();
 }
 
 static void detach_named(enum kupaldiz_kind kind, const struct kupaldiz_name *name)
 {
-	struct kupaldiz_entry gone = {0}, wanted = {0};
-	SAME(kupaldiz_detach(&keeper, &cpus[1], kind, name, &gone),
-	    model_detach(&model, 1, kind, name, &wanted));
-	EXPECT(same_entry(&gone, &wanted));
-	if (model.said == KUPALDIZ_DONE)
-		append(&gone);
+	struct kupaldiz_entry entry;
+	if (kupaldiz_detach(&keeper, &cpus[CHANGER], kind, name, &entry) == KUPALDIZ_DONE)
+		append(&entry);
 }
 
 static void detach(void)
@@ -157,13 +193,23 @@ static void detach(void)
 
 static void replace(void)
 {
-	struct kupaldiz_entry gone = {0}, wanted = {0}, made = {0}, wanted_made = {0};
-	const struct kupaldiz_name *name = any_name();
-	SAME(kupaldiz_replace(&keeper, &cpus[1], name, 9, &gone, &made),
-	    model_bring(&model, 1, NULL, name, 9, &wanted, &wanted_made));
-	EXPECT(same_entry(&gone, &wanted) && same_entry(&made, &wanted_made));
-	if (model.said == KUPALDIZ_DONE)
-		append(&gone);
+	struct kupaldiz_entry entry;
+	if (kupaldiz_replace(&keeper, &cpus[CHANGER], any_name(), 9, &entry, NULL) == KUPALDIZ_DONE)
+		append(&entry);
+}
+
+static void add_call(void)
+{
+	if (added - called == MOST_CALLS)
+		return;
+	struct thing *thing = malloc(sizeof *thing);
+	EXPECT(thing != NULL);
+	thing->call = (struct kupaldiz_call){&thing->call, make_call};
+	thing->place = added++;
+	for (unsigned i = 0; i < READERS; i++)
+		thing->open[i] = sections[i] % 2 == 1 ? sections[i] : 0;
+	DONE(kupaldiz_deferred_call(&list, &thing->call));
+	expect_list();
 }
 
 /* All entries wait, the drivers before the interfaces on them. */
@@ -181,147 +227,141 @@ static void resize(void)
 }
 
 /*
- * The empty list is any registry's. While entries of one wait, calls refuse another one's keeper,
- * and an empty one ever.
+ * The empty list is any registry's. While something of one waits, calls refuse another one's
+ * keeper, and an empty one ever.
  */
 static void change_keeper(void)
 {
 	static const struct kupaldiz_settings settings = {1, 1, 2, 2, 1, 1};
 	struct kupaldiz_keeper other = {0};
 	const struct kupaldiz_interlock changed = {&other, pass, pass, NULL};
-	const struct told none = {0};
 	struct kupaldiz_cpu cpu = {0};
 	enum kupaldiz_result wanted = KUPALDIZ_EMPTY_HANDLE;
 	size_t count = 99;
 	list.interlock = &changed;
 	if (below(2)) {
 		DONE(kupaldiz_open(&settings, &other, &cpu, 1));
-		wanted = waiting.count > 0 ? KUPALDIZ_FULL_HANDLE : KUPALDIZ_DONE;
+		wanted = kupaldiz_deferred_count(&list) > 0 ? KUPALDIZ_FULL_HANDLE : KUPALDIZ_DONE;
 	}
 	EXPECT(kupaldiz_deferred_free(&list, &count) == wanted);
 	EXPECT(count == (wanted == KUPALDIZ_DONE ? 0 : 99));
 	EXPECT(kupaldiz_deferred_barrier(&list, NULL) == wanted);
 	list.interlock = &interlock;
 	DONE(kupaldiz_close(&other, &cpu, 1));
-	expect_list(&none);
+	expect_list();
 }
 
-static void destroy_number(uint64_t number)
-{
-	struct kupaldiz_met met = {0}, wanted = {0};
-	SAME(kupaldiz_destroy(&keeper, number, &met), model_destroy(&model, number, &wanted));
-	EXPECT(met.stage == wanted.stage && met.what == wanted.what);
-}
-
-/* Somebody else works on a retired entry, which may wait. */
+/* Somebody else works on a retired entry, which waits. */
 static void destroy(void)
 {
-	const struct model_slot *slot = &model.slots[below(SLOTS)];
-	if (slot->state == RETIRED)
-		destroy_number(slot->entry.number);
+	if (waiting.count > 0)
+		(void)!kupaldiz_destroy(&keeper, waiting.at[below(waiting.count)].number, NULL);
 }
 
-/* The references are lost, and made again for their release. */
 static void hold(void)
 {
-	struct kupaldiz_passive reference = {0};
-	const enum kupaldiz_kind kind = any_kind();
-	const struct kupaldiz_name *name = any_name();
-	SAME(kupaldiz_get(&cpus[0], kind, name, &reference), model_get(&model, 0, kind, name));
-}
-
-static void release_number(uint64_t number)
-{
-	struct kupaldiz_passive reference = {{.number = number}, 0};
-	if (number != 0)
-		SAME(kupaldiz_release(&cpus[0], &reference),
-		    model_release(&model, 0, &(struct kupaldiz_passive){{.number = number}, 0}));
+	struct kupaldiz_passive *reference = &held[below(HELD)];
+	if (reference->entry.number == 0)
+		(void)!kupaldiz_get(&cpus[0], any_kind(), any_name(), reference);
 }
 
 static void release(void)
 {
-	release_number(model.slots[below(SLOTS)].entry.number);
+	kupaldiz_release(&cpus[0], &held[below(HELD)]);
 }
 
-static void enter(void)
+static void switch_section(unsigned reader)
 {
-	if (model.cpus[0].depth < 2)
-		SAME(kupaldiz_enter(&cpus[0]), model_enter(&model, 0));
+	const bool is_open = sections[reader] % 2 == 1;
+	DONE(is_open ? kupaldiz_exit(&cpus[reader]) : kupaldiz_enter(&cpus[reader]));
+	sections[reader]++;
 }
 
-static void leave(void)
+/* Exits follow enters sooner than enters follow exits. */
+static void enter_or_exit(void)
 {
-	SAME(kupaldiz_exit(&cpus[0]), model_exit(&model, 0));
+	const unsigned reader = (unsigned)below(READERS);
+	if (sections[reader] % 2 == 1 || below(4) == 0)
+		switch_section(reader);
 }
 
 static void (*const deeds[])(void) = {attach, attach, attach, attach, attach_iface, attach_iface,
-    replace, detach, detach, detach, detach, detach, free_all, destroy, hold, release, release,
-    enter, leave, resize, change_keeper};
+    replace, detach, detach, detach, detach, detach, free_all, destroy, hold, hold, release,
+    add_call, add_call, enter_or_exit, enter_or_exit, enter_or_exit, resize, change_keeper};
 
 static void do_any(void)
 {
 	deeds[below(COUNT_OF(deeds))]();
 }
 
-static bool is_waiting(uint64_t number)
+/* What found no place in the list is destroyed, if nothing holds it. */
+static void house(void)
 {
-	for (size_t i = 0; i < waiting.count; i++)
-		if (waiting.entries[i].number == number)
-			return true;
-	return false;
+	const struct entries all = homeless;
+	homeless.count = 0;
+	for (size_t i = 0; i < all.count; i++)
+		if (kupaldiz_destroy(&keeper, all.at[i].number, NULL) == KUPALDIZ_STILL_HELD)
+			push(&homeless, &all.at[i]);
 }
 
-/* CPU 0 lets all go. What found no place in the list is destroyed, if nothing holds it. */
+/* The readers let all go. */
 static void let_go(void)
 {
-	while (model.cpus[0].depth > 0)
-		leave();
-	for (unsigned s = 0; s < SLOTS; s++)
-		while (model.slots[s].state != VACANT && model.slots[s].passive[0] > 0)
-			release_number(model.slots[s].entry.number);
-	for (unsigned s = 0; s < SLOTS; s++)
-		if (model.slots[s].state == RETIRED && !is_waiting(model.slots[s].entry.number))
-			destroy_number(model.slots[s].entry.number);
+	for (unsigned i = 0; i < READERS; i++)
+		if (sections[i] % 2 == 1)
+			switch_section(i);
+	for (unsigned i = 0; i < HELD; i++)
+		kupaldiz_release(&cpus[0], &held[i]);
+	house();
 }
 
+/* ---- Barriers. ---- */
+
 /*
- * A barrier that is under way: how many turns it has made, and what waited after the first and
- * waits still.
+ * How many turns the one under way has made; which entries waited after the first, and wait still;
+ * and how many calls there were then.
  */
 static unsigned turns;
-static struct told awaited;
+static struct entries awaited;
+static uint64_t awaited_calls;
+
+static bool is_awaiting(void)
+{
+	return awaited.count > 0 || called < awaited_calls;
+}
 
 /*
  * Before a turn others work, and in the end they let all go. None is made once nothing is awaited.
  */
 static void take(void *of)
 {
-	EXPECT(of == &turns && (turns == 0 || awaited.count > 0));
+	EXPECT(of == &turns && (turns == 0 || is_awaiting()));
 	for (unsigned i = 0; i < 4 && turns < 6; i++)
 		do_any();
 	if (turns == 6) {
 		detach_all();
 		let_go();
 	}
+	begin_turns();
 }
 
 /* Of what is awaited, what waits still. */
-static struct told still_awaited(void)
+static struct entries still_awaited(void)
 {
-	struct told left = {0};
+	struct entries still = {0};
 	for (size_t place = 0; place < awaited.count * waiting.count; place++) {
-		const struct kupaldiz_entry *entry = &waiting.entries[place % waiting.count];
-		if (entry->number == awaited.entries[place / waiting.count].number)
-			left.entries[left.count++] = *entry;
+		const struct kupaldiz_entry *entry = &waiting.at[place % waiting.count];
+		if (entry->number == awaited.at[place / waiting.count].number)
+			push(&still, entry);
 	}
-	return left;
+	return still;
 }
 
 static void give(void *of)
 {
-	struct told freed = freed_first();
 	EXPECT(of == &turns);
-	expect_list(&freed);
+	end_turns();
+	awaited_calls = turns == 0 ? added : awaited_calls;
 	awaited = turns++ == 0 ? waiting : still_awaited();
 }
 
@@ -338,37 +378,60 @@ static void wait_in_list(void)
 	list.interlock = &watched;
 	enum kupaldiz_result result = kupaldiz_deferred_barrier(&list, is_late ? &past : NULL);
 	list.interlock = &interlock;
-	EXPECT(result == (awaited.count > 0 ? KUPALDIZ_STILL_HELD : KUPALDIZ_DONE));
-	EXPECT(is_late ? turns == 1 : awaited.count == 0);
+	EXPECT(result == (is_awaiting() ? KUPALDIZ_STILL_HELD : KUPALDIZ_DONE));
+	EXPECT(is_late ? turns == 1 : !is_awaiting());
 }
 
 /*
- * CPU 0 is inside, and everything is detached: all wait. Then it leaves, and one call frees them
- * all, oldest first.
+ * A reader is inside, and everything is detached: all wait. Then it leaves, and one call frees what
+ * isn't a driver of an interface behind it, and the next one the rest. Inside a section the list's
+ * CPU has no turn for calls.
  */
 static void fill_and_free(void)
 {
 	let_go();
 	for (unsigned i = 0; i < NAMES; i++)
 		attach();
-	enter();
+	switch_section(0);
 	detach_all();
-	let_go();
 	free_all();
-	free_all();
+	add_call();
+	const uint64_t before = called;
 	let_go();
-	EXPECT(kupaldiz_deferred_count(&list) == 0 && count_of(&model, RETIRED) == 0);
+	DONE(kupaldiz_enter(&cpus[OF_LIST]));
+	begin_turns();
+	DONE(kupaldiz_deferred_free(&list, NULL));
+	end_turns();
+	EXPECT(called == before);
+	DONE(kupaldiz_exit(&cpus[OF_LIST]));
+	free_all();
+	house();
+	EXPECT(kupaldiz_deferred_count(&list) == 0 && homeless.count == 0);
+}
+
+/* A list without a CPU, or with one that is closed, takes no call. */
+static void test_without_cpu(void)
+{
+	struct kupaldiz_call call = {.function = make_call};
+	struct kupaldiz_deferred without = {.interlock = &interlock};
+	IS(EMPTY_HANDLE, kupaldiz_deferred_call(&without, &call));
+	without.cpu = &closed;
+	IS(EMPTY_HANDLE, kupaldiz_deferred_call(&without, &call));
+	EXPECT(kupaldiz_deferred_count(&without) == 0);
+	DONE(kupaldiz_deferred_free(&without, NULL));
 }
 
 int main(int argc, char **argv)
 {
+	const struct kupaldiz_settings settings = KUPALDIZ_SETTINGS(CPUS, SLOTS);
 	unsigned long rounds = argc > 1 ? strtoul(argv[1], NULL, 10) : 1000;
-	model.settings = (struct kupaldiz_settings)KUPALDIZ_SETTINGS(2, SLOTS);
-	model.settings.passive_limit = 100;
 	seed_dice(argc > 2 ? strtoull(argv[2], NULL, 10) : 1);
 	for (unsigned i = 0; i < NAMES; i++)
 		names[i] = numbered('n', i);
-	DONE(kupaldiz_open(&model.settings, &keeper, cpus, 2));
+	DONE(kupaldiz_open(&settings, &keeper, cpus, CPUS));
+	test_without_cpu();
+	free_all();
+	DONE(kupaldiz_deferred_barrier(&list, NULL));
 	for (unsigned long round = 0; round < rounds; round++) {
 		for (unsigned i = 0; i < 200; i++)
 			do_any();
@@ -377,8 +440,8 @@ int main(int argc, char **argv)
 			fill_and_free();
 	}
 	fill_and_free();
-	EXPECT(most_freed > SLOTS / 2);
-	DONE(kupaldiz_close(&keeper, cpus, 2));
+	EXPECT(most_freed > SLOTS / 2 && added > rounds);
+	DONE(kupaldiz_close(&keeper, cpus, CPUS));
 	puts("deferred end");
 	return 0;
 }

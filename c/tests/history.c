@@ -1,24 +1,22 @@
 /*
- * history - registries to the end of their histories, on one thread, beside the plain model of
- * model.h: each result is compared
+ * history - registries to the end of their histories, on one thread: very many changes and
+ * references, and what the calls do with memory. Scripts have the rest: script.c
  *
  *     history [CHANGES [SEED [PART]]]
  *
  * A registry of 8 CPUs and 32 slots has room for CHANGES changes, by default ten million, and goes
- * through them (`long`); in the program `largest` it has 64 CPUs and 255 slots. Smaller ones meet
- * each limit (`small`), and one has very many references (`counts`). PART names one of these, to
- * run alone.
- *
- * Now and then a call gets an empty handle, a NULL, or a kind or a name that is none. Some get no
- * place for what they write, or no memory. At an opening each allocation is refused in turn.
+ * through them (`long`), or the largest one does (`largest`). Small ones come to their ends
+ * (`small`), and one has very many references (`counts`). PART names one of these, to run alone;
+ * without it all but `largest` do. Each result is that of a plain table of the test's own.
  *
  * The linker leads malloc, realloc and free here (--wrap), except in the brief program: so blocks
- * are counted, and the registry's table is known, where each line has one writer between two calls
- * that both write on.
+ * are counted, at an opening each allocation is refused in turn, and the registry's table is known.
+ * There each line has one writer between two calls that both write on.
  */
 #include <inttypes.h>
 
-#include "calls.h"
+#include "client.h"
+#include "dice.h"
 #include "wrapped_heap.h"
 
 /* Where each access takes long, references to one entry and small registries are fewer. */
@@ -29,15 +27,19 @@ enum { MANY = 101, SMALL = 4, IS_WRAPPED = false };
 enum { MANY = 1000001, SMALL = 200, IS_WRAPPED = true };
 #endif
 
-enum { LONGEST = 10 * 1000 * 1000, LINE = 64, ALIKE = 16 };
+enum { LONGEST = 10 * 1000 * 1000, LINE = 64, ALIKE = 16, HELD = 40 };
+enum { CPUS = KUPALDIZ_MOST_CPUS, SLOTS = KUPALDIZ_MOST_SLOTS, NAMES = SLOTS * 3 / 4 };
+
+/* ---- Memory. ---- */
 
 /* Blocks that are in use, and how often one was taken. */
 static uint64_t blocks, taken;
-/* How many more allocations aren't refused. */
+/* How many more allocations aren't refused, and whether one was. */
 static uint64_t allowed = UINT64_MAX;
+static bool was_refused;
 /*
- * The last registry's table, and the table's bytes: the first block of that size that an opening
- * takes and doesn't free.
+ * The registry's table, and its bytes: the first block of that size that an opening takes and
+ * doesn't free.
  */
 static uint64_t *table;
 static size_t table_bytes;
@@ -80,129 +82,442 @@ void __wrap_free(void *block)
 }
 #endif
 
+/* ---- The registry, and what the test knows of it. ---- */
+
+enum state { VACANT, LIVE, RETIRED };
+
+struct slot {
+	enum state state;
+	struct kupaldiz_entry entry;
+	uint64_t place;		/* in a walk: its number, or the place of the one it replaced */
+	uint64_t driver;	/* the number of the driver that an interface keeps, or 0 */
+	uint64_t ended;		/* how many changes there were after its detach */
+	bool collected;		/* a turn has met KUPALDIZ_LOCAL */
+};
+
+static struct kupaldiz_settings settings;
+static struct kupaldiz_keeper keeper;
+static struct kupaldiz_cpu cpus[CPUS];
+static struct kupaldiz_name names[NAMES];
+static struct slot slots[SLOTS];
+static struct kupaldiz_passive passives[HELD];
+static struct kupaldiz_local locals[HELD];
+static uint64_t changes, entered[CPUS];	/* how many changes a section has seen plus 1, or 0 */
+static uint64_t blocks_at_first, compared;
+static unsigned last_cpu;
+
+static bool is_inside(unsigned cpu)
+{
+	return entered[cpu] != 0;
+}
+
+static unsigned any_cpu(void)
+{
+	return last_cpu = (unsigned)below(settings.cpus);
+}
+
+/* One of so many names that those of both kinds are more than the slots. */
+static const struct kupaldiz_name *any_name(void)
+{
+	return &names[below(settings.slots * 3 / 4 + 1) % NAMES];
+}
+
+static enum kupaldiz_kind any_kind(void)
+{
+	return below(2) ? KUPALDIZ_DRIVER : KUPALDIZ_INTERFACE;
+}
+
+static struct slot *live_slot(enum kupaldiz_kind kind, const struct kupaldiz_name *name)
+{
+	for (struct slot *slot = slots; slot < slots + settings.slots; slot++)
+		if (slot->state == LIVE && slot->entry.kind == kind &&
+		    same_name(&slot->entry.name, name))
+			return slot;
+	return NULL;
+}
+
+static unsigned count_of(enum state state)
+{
+	unsigned count = 0;
+	for (unsigned s = 0; s < settings.slots; s++)
+		count += slots[s].state == state;
+	return count;
+}
+
+static struct slot *first_vacant(void)
+{
+	for (unsigned s = 0; s < settings.slots; s++)
+		if (slots[s].state == VACANT)
+			return &slots[s];
+	return NULL;
+}
+
+static void same(enum kupaldiz_result result, enum kupaldiz_result wanted)
+{
+	compared++;
+	EXPECT(result == wanted);
+}
+
+/* ---- Changes. ---- */
+
+static void retire(struct slot *slot, const struct kupaldiz_entry *gone)
+{
+	EXPECT(same_entry(gone, &slot->entry));
+	slot->state = RETIRED;
+	slot->ended = changes;
+}
+
+/* What an attach returns that finds this entry by its name, or a replacement. */
+static enum kupaldiz_result judge_change(const struct slot *old, bool replaces)
+{
+	const bool is_full = changes + 2 + count_of(LIVE) > settings.change_limit;
+	const enum kupaldiz_result room = first_vacant() == NULL ? KUPALDIZ_NO_SLOT
+	    : is_full ? KUPALDIZ_HISTORY_FULL : KUPALDIZ_DONE;
+	same(kupaldiz_room(&keeper), room);
+	if (replaces != (old != NULL))
+		return replaces ? KUPALDIZ_NOT_FOUND : KUPALDIZ_NAME_TAKEN;
+	return room;
+}
+
+/* An attach, or a replacement, of a driver, or of an interface on the driver with that name. */
+static void bring(enum kupaldiz_kind kind, const struct kupaldiz_name *name,
+    const struct kupaldiz_name *on, bool replaces)
+{
+	struct kupaldiz_cpu *cpu = &cpus[any_cpu()];
+	struct slot *old = live_slot(kind, name), *slot = first_vacant();
+	const struct slot *driver = kind == KUPALDIZ_INTERFACE ? live_slot(KUPALDIZ_DRIVER, on) : old;
+	enum kupaldiz_result wanted = judge_change(old, replaces), result;
+	struct kupaldiz_entry made = {0}, gone = {0};
+	const uint64_t value = random_word;
+	if (is_inside(last_cpu))
+		wanted = KUPALDIZ_INSIDE;
+	else if (kind == KUPALDIZ_INTERFACE && driver == NULL)
+		wanted = KUPALDIZ_NEEDS_DRIVER;
+	if (kind == KUPALDIZ_DRIVER)
+		result = replaces ? kupaldiz_replace(&keeper, cpu, name, value, &gone, &made)
+		                  : kupaldiz_attach(&keeper, cpu, name, value, &made);
+	else
+		result = replaces
+		    ? kupaldiz_replace_iface(&keeper, cpu, on, name, value, &gone, &made)
+		    : kupaldiz_attach_iface(&keeper, cpu, on, name, value, &made);
+	same(result, wanted);
+	if (result != KUPALDIZ_DONE)
+		return;
+	*slot = (struct slot){.state = LIVE, .entry = {changes + 1, (uint64_t)(slot - slots), kind,
+	    *name, {value}}, .place = replaces ? old->place : changes + 1,
+	    .driver = kind == KUPALDIZ_INTERFACE ? driver->entry.number : 0};
+	EXPECT(same_entry(&made, &slot->entry));
+	changes++;
+	if (replaces)
+		retire(old, &gone);
+}
+
+static void attach(void)
+{
+	bring(any_kind(), any_name(), any_name(), false);
+}
+
+static void replace(void)
+{
+	bring(any_kind(), any_name(), any_name(), true);
+}
+
+static void detach_named(enum kupaldiz_kind kind, const struct kupaldiz_name *name)
+{
+	struct slot *slot = live_slot(kind, name);
+	struct kupaldiz_entry gone;
+	const enum kupaldiz_result wanted = slot == NULL ? KUPALDIZ_NOT_FOUND : KUPALDIZ_DONE;
+	const unsigned cpu = any_cpu();
+	same(kupaldiz_detach(&keeper, &cpus[cpu], kind, name, &gone),
+	    is_inside(cpu) ? KUPALDIZ_INSIDE : wanted);
+	if (slot == NULL || is_inside(cpu))
+		return;
+	changes++;
+	retire(slot, &gone);
+}
+
+static void detach(void)
+{
+	detach_named(any_kind(), any_name());
+}
+
+/* ---- Lookups, sections and references. ---- */
+
+/* By memory, or in a section. */
+static void look_up(void)
+{
+	const enum kupaldiz_kind kind = any_kind();
+	const struct kupaldiz_name *name = any_name();
+	const struct slot *slot = live_slot(kind, name);
+	struct kupaldiz_entry entry = {0};
+	struct kupaldiz_cpu *cpu = &cpus[any_cpu()];
+	const bool enters = below(4) == 0;
+	const enum kupaldiz_result result = enters ? kupaldiz_enter_find(cpu, kind, name, &entry)
+	                                           : kupaldiz_look_up(cpu, kind, name, &entry);
+	same(result, slot != NULL ? KUPALDIZ_DONE : KUPALDIZ_NOT_FOUND);
+	EXPECT(slot == NULL || same_entry(&entry, &slot->entry));
+	if (enters && result == KUPALDIZ_DONE)
+		DONE(kupaldiz_exit(cpu));
+}
+
+static void enter_or_exit(void)
+{
+	const unsigned cpu = any_cpu();
+	same(is_inside(cpu) ? kupaldiz_exit(&cpus[cpu]) : kupaldiz_enter(&cpus[cpu]),
+	    KUPALDIZ_DONE);
+	entered[cpu] = is_inside(cpu) ? 0 : changes + 1;
+}
+
+/* Each live entry, the newest first; one that replaced another in that one's place. */
+static void walk(void)
+{
+	struct kupaldiz_entry row[SLOTS];
+	struct kupaldiz_cpu *cpu = &cpus[any_cpu()];
+	uint64_t before = UINT64_MAX;
+	size_t count;
+	DONE(kupaldiz_enter(cpu));
+	same(kupaldiz_walk(cpu, row, SLOTS, &count), KUPALDIZ_DONE);
+	DONE(kupaldiz_exit(cpu));
+	EXPECT(count == count_of(LIVE));
+	for (size_t i = 0; i < count; i++) {
+		const struct slot *slot = &slots[row[i].slot];
+		EXPECT(slot->state == LIVE && same_entry(&row[i], &slot->entry));
+		EXPECT(slot->place < before);
+		before = slot->place;
+	}
+}
+
+/* A get, or a release of what the place has. */
+static void refer(void)
+{
+	struct kupaldiz_passive *at = &passives[below(HELD)];
+	if (at->entry.number != 0) {
+		last_cpu = (unsigned)at->cpu;
+		same(kupaldiz_release(&cpus[at->cpu], at), KUPALDIZ_DONE);
+		return;
+	}
+	const enum kupaldiz_kind kind = any_kind();
+	const struct kupaldiz_name *name = any_name();
+	const struct slot *slot = live_slot(kind, name);
+	same(kupaldiz_get(&cpus[any_cpu()], kind, name, at),
+	    slot != NULL ? KUPALDIZ_DONE : KUPALDIZ_NOT_FOUND);
+	EXPECT(slot == NULL || (same_entry(&at->entry, &slot->entry) && at->cpu == last_cpu));
+}
+
+static const struct slot *slot_of(uint64_t number)
+{
+	const struct slot *slot = slots;
+	while (slot->state == VACANT || slot->entry.number != number)
+		slot++;
+	return slot;
+}
+
+/* On any CPU, also without one once the count was collected. A copy that stays changes nothing. */
+static void release_local(struct kupaldiz_local *local)
+{
+	const bool is_collected = slot_of(local->entry.number)->collected;
+	struct kupaldiz_cpu *cpu = &cpus[any_cpu()];
+	same(kupaldiz_try_release_local(cpu, local),
+	    is_collected ? KUPALDIZ_COLLECTED : KUPALDIZ_DONE);
+	if (is_collected)
+		same(kupaldiz_release_local_locked(&keeper, below(2) ? NULL : cpu, local),
+		    KUPALDIZ_DONE);
+	EXPECT(local->at[0] == NULL && local->entry.number == 0);
+}
+
+/* A copy is kept in place of the reference. Without memory there is none. */
+static void copy_local(struct kupaldiz_local *local)
+{
+	struct kupaldiz_local copy = {0};
+	was_refused = false;
+	const enum kupaldiz_result result = kupaldiz_copy_local(local, &copy);
+	same(result, was_refused ? KUPALDIZ_NO_MEMORY : KUPALDIZ_DONE);
+	if (result != KUPALDIZ_DONE)
+		return;
+	EXPECT(same_entry(&copy.entry, &local->entry));
+	DONE(kupaldiz_try_release_local(&cpus[last_cpu], local));
+	*local = copy;
+}
+
+/* Only here memory is taken. Now and then there is none. */
+static void count(void)
+{
+	struct kupaldiz_local *at = &locals[below(HELD)];
+	const enum kupaldiz_kind kind = any_kind();
+	const struct kupaldiz_name *name = any_name();
+	const struct slot *slot = live_slot(kind, name);
+	struct kupaldiz_cpu *cpu = &cpus[any_cpu()];
+	if (at->entry.number != 0) {
+		same(kupaldiz_get_local(cpu, kind, name, at), KUPALDIZ_FULL_HANDLE);
+		return;
+	}
+	allowed = below(4) == 0 ? below(3) : UINT64_MAX;
+	was_refused = false;
+	const enum kupaldiz_result result = kupaldiz_get_local(cpu, kind, name, at);
+	same(result, was_refused ? KUPALDIZ_NO_MEMORY : slot != NULL ? KUPALDIZ_DONE
+	                                                              : KUPALDIZ_NOT_FOUND);
+	if (result == KUPALDIZ_DONE) {
+		EXPECT(same_entry(&at->entry, &slot->entry));
+		copy_local(at);
+	}
+	allowed = UINT64_MAX;
+}
+
+static void uncount(void)
+{
+	struct kupaldiz_local *at = &locals[below(HELD)];
+	if (at->entry.number != 0)
+		release_local(at);
+}
+
+/* ---- Turns. ---- */
+
+/* How many local references to the entry are held, those that slots keep among them. */
+static uint64_t count_locals(uint64_t number)
+{
+	uint64_t sum = 0;
+	for (unsigned i = 0; i < HELD; i++)
+		sum += locals[i].entry.number == number;
+	for (unsigned s = 0; s < settings.slots; s++)
+		sum += slots[s].state != VACANT && slots[s].driver == number;
+	return sum;
+}
+
+/* The first CPU, from 0, whose section may hold the retired entry; or how many CPUs there are. */
+static uint64_t first_inside(const struct slot *slot)
+{
+	uint64_t cpu = 0;
+	while (cpu < settings.cpus && (entered[cpu] == 0 || entered[cpu] > slot->ended))
+		cpu++;
+	return cpu;
+}
+
+/* The same of the CPUs that refer to it passively. */
+static uint64_t first_referring(uint64_t number)
+{
+	uint64_t cpu = settings.cpus;
+	for (unsigned i = 0; i < HELD; i++)
+		if (passives[i].entry.number == number && passives[i].cpu < cpu)
+			cpu = passives[i].cpu;
+	return cpu;
+}
+
+static struct kupaldiz_met what_holds(struct slot *slot)
+{
+	const uint64_t number = slot->entry.number, count = count_locals(number);
+	const uint64_t inside = first_inside(slot), referring = first_referring(number);
+	if (inside < settings.cpus)
+		return (struct kupaldiz_met){KUPALDIZ_GRACE, inside};
+	if (referring < settings.cpus)
+		return (struct kupaldiz_met){KUPALDIZ_PASSIVE, referring};
+	slot->collected = true;
+	return count != 0 ? (struct kupaldiz_met){KUPALDIZ_LOCAL, count}
+	                  : (struct kupaldiz_met){KUPALDIZ_FREED, slot->entry.slot};
+}
+
+/* A turn of a retired entry, or with a number that none has. */
+static void turn(struct slot *slot)
+{
+	struct kupaldiz_met met, wanted;
+	if (slot->state != RETIRED) {
+		same(kupaldiz_destroy(&keeper, slot->entry.number, NULL), KUPALDIZ_NOT_RETIRED);
+		return;
+	}
+	wanted = what_holds(slot);
+	const bool is_free = wanted.stage == KUPALDIZ_FREED;
+	same(kupaldiz_destroy(&keeper, slot->entry.number, &met),
+	    is_free ? KUPALDIZ_DONE : KUPALDIZ_STILL_HELD);
+	EXPECT(met.stage == wanted.stage && met.what == wanted.what);
+	if (is_free)
+		slot->state = VACANT;
+}
+
+static void destroy(void)
+{
+	turn(&slots[below(settings.slots)]);
+}
+
+static void audit(void)
+{
+	static struct kupaldiz_balance list[SLOTS];
+	size_t length, met = 0;
+	same(kupaldiz_audit(&keeper, cpus, settings.cpus, list, SLOTS, &length), KUPALDIZ_DONE);
+	for (unsigned s = 0; s < settings.slots; s++) {
+		const uint64_t number = slots[s].entry.number;
+		if (slots[s].state == VACANT)
+			continue;
+		EXPECT(met < length && list[met].number == number && list[met].slot == s);
+		EXPECT(list[met].held == (int64_t)count_locals(number));
+		met++;
+	}
+	EXPECT(met == length);
+}
+
 /* ---- One call after another. ---- */
 
-/* The call of a row on this CPU, and what it gets besides. */
-static struct given given_on(struct world *world, unsigned at)
+/* Who writes shared words in a call: the CPU, the keeper, or both. */
+enum writer { CPU, KEEPER, BOTH };
+
+/* The first four change entries. */
+static const struct row {
+	void (*act)(void);
+	enum writer writer;
+	unsigned often;		/* of a hundred */
+} ROWS[] = {
+	{attach, BOTH, 22}, {replace, BOTH, 6}, {detach, KEEPER, 18}, {destroy, BOTH, 18},
+	{look_up, CPU, 12}, {enter_or_exit, CPU, 6}, {refer, CPU, 6}, {count, CPU, 4},
+	{uncount, BOTH, 4}, {walk, CPU, 3}, {audit, KEEPER, 1},
+};
+enum { CHANGES = 22 + 6 + 18 + 18 };
+
+/* A reference has a block, its count once it was copied, and its share; and each CPU keeps one. */
+static void count_blocks(void)
 {
-	world->cpu = at;
-	return (struct given){.at = at, .cpu = &world->cpus[at], .keeper = &world->keeper,
-	    .wants = true, .new_passive = &world->passives[world->passive_count],
-	    .passive = &world->passives[0], .was = world->passives[0],
-	    .local = &world->locals[0], .new_local = &world->locals[world->local_count]};
+	uint64_t held = 0;
+	for (unsigned i = 0; i < HELD; i++)
+		held += locals[i].entry.number != 0;
+	EXPECT(blocks <= blocks_at_first + 3 * held + settings.cpus);
 }
 
-static void leave_all(struct world *world)
-{
-	for (unsigned c = 0; c < world->model.settings.cpus; c++)
-		while (is_inside(&world->model, c)) {
-			const struct given given = given_on(world, c);
-			compare(world, &given, &ROWS[EXIT]);
-		}
-}
-
-/* One that another release has taken away stays as it was. */
-static void release_passive(struct world *world)
-{
-	const struct given given = given_on(world, (unsigned)world->passives[0].cpu);
-	if (compare(world, &given, &ROWS[RELEASE]) == KUPALDIZ_DONE)
-		return;
-	memset(given.passive, 0, sizeof *given.passive);
-	drop_passive(world, given.passive);
-}
-
-static void release_local(struct world *world)
-{
-	const struct given given = given_on(world, any_cpu(world));
-	compare(world, &given, &ROWS[RELEASE_LOCAL]);
-}
-
-/* All CPUs leave their sections, and nothing is referred to, except by slots. */
-static void let_all_go(struct world *world)
-{
-	leave_all(world);
-	while (world->passive_count > 0)
-		release_passive(world);
-	while (world->local_count > 0)
-		release_local(world);
-}
-
-static enum kupaldiz_result destroy(struct world *world, uint64_t number)
-{
-	struct given given = given_on(world, world->cpu);
-	given.number = number;
-	return compare(world, &given, &ROWS[DESTROY]);
-}
-
-/*
- * What is retired is freed if nothing holds it, twice over: an interface before the driver that its
- * slot keeps.
- */
-static void free_retired(struct world *world)
-{
-	const uint64_t slots = world->model.settings.slots;
-	for (unsigned s = 0; s < 2 * slots; s++)
-		if (world->model.slots[s % slots].state == RETIRED)
-			destroy(world, world->model.slots[s % slots].entry.number);
-}
-
-static void settle(struct world *world)
-{
-	let_all_go(world);
-	free_retired(world);
-}
-
-/*
- * The CPU has begun as many sections as the table says, which are among those that the model
- * allows. Each local reference has three blocks at most (its own, the count of one that was copied,
- * and its share of that), and each CPU keeps one.
- */
-static void same_counts(struct world *world)
-{
-	struct model_cpu *own = &world->model.cpus[world->cpu];
-	if (table != NULL) {
-		const uint64_t word = table[TABLE_ROW(world->model.settings.slots, world->cpu)];
-		EXPECT(word % 2 == (own->depth > 0));
-		EXPECT(own->least <= (word + 1) / 2 && (word + 1) / 2 <= own->most);
-		own->least = own->most = (word + 1) / 2;
-	}
-	EXPECT(blocks <= world->blocks + 3 * world->local_count + world->model.settings.cpus);
-}
-
-/* Makes a row's call. Only one that acquires a local reference takes memory. */
-static void act(struct world *world, const struct row *row)
+/* Makes any of the first rows. Who writes in it. */
+static enum writer act_any(uint64_t among)
 {
 	const uint64_t before = taken;
-	make(world, row);
-	EXPECT(taken == before || row->needs & TO_LOCAL);
-	same_counts(world);
-}
-
-/* Makes any of them, now and then without memory. Who writes in it. */
-static enum writer act_any(struct world *world)
-{
-	const struct row *row = any_row();
-	allowed = below(4) == 0 ? 0 : UINT64_MAX;
-	act(world, row);
-	allowed = UINT64_MAX;
+	const struct row *row = ROWS;
+	for (uint64_t which = below(among); which >= row->often; row++)
+		which -= row->often;
+	row->act();
+	EXPECT(taken == before || row->act == count);
+	if (taken != before)
+		count_blocks();
 	return row->writer;
 }
 
-/* A few calls on one CPU. Most change something: entries of each kind come and go. */
-static void hurry(struct world *world)
+static void let_all_go(void)
 {
-	static const int calls[] = {ENTER_FIND, GET_LOCAL, EXIT, ATTACH_IFACE, RELEASE_LOCAL,
-	    ATTACH, LOOK_UP, ATTACH, DETACH, ATTACH, REPLACE, DETACH, DESTROY, DETACH, LOOK_UP,
-	    DETACH};
-	any_cpu(world);
-	world->stays = true;
-	for (size_t i = 0; i < COUNT_OF(calls); i++)
-		act(world, &ROWS[calls[i]]);
-	free_retired(world);
-	world->stays = false;
+	for (last_cpu = 0; last_cpu < settings.cpus; last_cpu++)
+		if (is_inside(last_cpu))
+			DONE(kupaldiz_exit(&cpus[last_cpu]));
+	memset(entered, 0, sizeof entered);
+	for (unsigned i = 0; i < HELD; i++)
+		if (passives[i].entry.number != 0)
+			DONE(kupaldiz_release(&cpus[passives[i].cpu], &passives[i]));
+	for (unsigned i = 0; i < HELD; i++)
+		if (locals[i].entry.number != 0)
+			release_local(&locals[i]);
 }
 
-/* Who has written on each line of the last registry's table, and what its words were then. */
+/* Nothing is held, and what is retired is freed: interfaces before drivers. */
+static void settle(void)
+{
+	let_all_go();
+	for (unsigned s = 0; s < 2 * settings.slots; s++)
+		if (slots[s % settings.slots].state == RETIRED)
+			turn(&slots[s % settings.slots]);
+	EXPECT(count_of(RETIRED) <= count_of(LIVE));
+}
+
+/* Who has written on each line of the table, and what its words were then. */
 static struct {
 	/* 0 for none, 1 for the keeper, a CPU's number plus 2 */
 	unsigned writers[TABLE_BYTES(SLOTS, CPUS) / LINE + 1];
@@ -210,11 +525,11 @@ static struct {
 } lines;
 
 /* After a call: no line that was written on is another writer's. */
-static void same_writers(const struct world *world, enum writer writer)
+static void same_writers(enum writer writer)
 {
-	const unsigned own = writer == CPU ? world->cpu + 2 : 1;
+	const unsigned own = writer == CPU ? last_cpu + 2 : 1;
 	const uintptr_t first = (uintptr_t)table / LINE;
-	for (size_t i = 0; i < table_bytes / sizeof *table; i++) {
+	for (size_t i = 0; table != NULL && i < table_bytes / sizeof *table; i++) {
 		unsigned *of = &lines.writers[(uintptr_t)&table[i] / LINE - first];
 		if (table[i] == lines.words[i])
 			continue;
@@ -227,216 +542,130 @@ static void same_writers(const struct world *world, enum writer writer)
 /* ---- From its opening to its end. ---- */
 
 /* Opens it once enough allocations aren't refused. Until then nothing is opened or kept. */
-static void open_at_last(struct world *world)
+static void open_at_last(void)
 {
-	const struct kupaldiz_settings *settings = &world->model.settings;
-	const uint64_t before = blocks;
 	enum kupaldiz_result result = KUPALDIZ_NO_MEMORY;
 	uint64_t enough = IS_WRAPPED ? 0 : UINT64_MAX;
 	for (; result == KUPALDIZ_NO_MEMORY; enough++) {
-		EXPECT(blocks == before && world->keeper.at == NULL);
-		for (unsigned c = 0; c < settings->cpus; c++)
-			EXPECT(world->cpus[c].at == NULL);
+		EXPECT(blocks == 0 && keeper.at == NULL);
+		for (unsigned c = 0; c < settings.cpus; c++)
+			EXPECT(cpus[c].at == NULL);
 		alike_count = 0;
 		allowed = enough;
-		result = kupaldiz_open(settings, &world->keeper, world->cpus, settings->cpus);
+		result = kupaldiz_open(&settings, &keeper, cpus, settings.cpus);
 		allowed = UINT64_MAX;
 	}
 	DONE(result);
 }
 
-static struct world *opened(const struct kupaldiz_settings *settings, uint64_t seed)
+static void open_registry(const struct kupaldiz_settings *of, uint64_t seed)
 {
-	struct world *world = calloc(1, sizeof *world);
-	EXPECT(world != NULL);
-	world->model.settings = *settings;
+	settings = *of;
 	seed_dice(seed);
-	table_bytes = TABLE_BYTES(settings->slots, settings->cpus);
-	open_at_last(world);
-	world->blocks = blocks;
+	memset(slots, 0, sizeof slots);
+	memset(&lines, 0, sizeof lines);
+	changes = 0;
+	table_bytes = TABLE_BYTES(settings.slots, settings.cpus);
+	open_at_last();
+	blocks_at_first = blocks;
 	table = alike_count == 0 ? NULL : alike[0];
 	alike_count = ALIKE;
-	memset(&lines, 0, sizeof lines);
 	if (table != NULL)
 		memcpy(lines.words, table, table_bytes);
-	return world;
 }
 
 /* With a CPU inside nothing is closed, however many handles are given. */
-static void close_inside(struct world *world)
+static void close_inside(void)
 {
-	const unsigned cpus = (unsigned)world->model.settings.cpus;
-	for (unsigned c = 0; c < cpus; c++) {
-		const struct given given = given_on(world, c);
-		if (compare(world, &given, &ROWS[ENTER]) != KUPALDIZ_DONE)
-			continue;
-		IS(INSIDE, kupaldiz_close(NULL, &world->cpus[c], 1));
-		IS(INSIDE, kupaldiz_close(&world->keeper, world->cpus, cpus));
-		DONE(kupaldiz_settings_of(&world->keeper, NULL));
-		compare(world, &given, &ROWS[EXIT]);
+	for (unsigned c = 0; c < settings.cpus; c++) {
+		DONE(kupaldiz_enter(&cpus[c]));
+		IS(INSIDE, kupaldiz_close(NULL, &cpus[c], 1));
+		IS(INSIDE, kupaldiz_close(&keeper, cpus, settings.cpus));
+		DONE(kupaldiz_settings_of(&keeper, NULL));
+		DONE(kupaldiz_exit(&cpus[c]));
 	}
-}
-
-/* All handles are empty, and no block is in use. */
-static void expect_closed(struct world *world)
-{
-	for (unsigned c = 0; c < world->model.settings.cpus; c++)
-		IS(EMPTY_HANDLE, kupaldiz_depth(&world->cpus[c], NULL));
-	IS(EMPTY_HANDLE, kupaldiz_settings_of(&world->keeper, NULL));
-	EXPECT(blocks == 0 || !IS_WRAPPED);
 }
 
 /* Some are closed before the rest, in either order. What is closed stays so. It takes no memory. */
-static void closed(struct world *world)
+static void close_registry(void)
 {
-	const unsigned cpus = (unsigned)world->model.settings.cpus;
-	close_inside(world);
-	IS(NULL, kupaldiz_close(&world->keeper, NULL, SIZE_MAX));
+	close_inside();
+	IS(NULL, kupaldiz_close(&keeper, NULL, SIZE_MAX));
 	table = NULL;
 	allowed = 0;
-	for (unsigned c = (unsigned)below(2); c + 1 < cpus; c += 3)
-		DONE(kupaldiz_close(NULL, &world->cpus[c], 1));
+	for (unsigned c = (unsigned)below(2); c + 1 < settings.cpus; c += 3)
+		DONE(kupaldiz_close(NULL, &cpus[c], 1));
 	if (below(2))
-		DONE(kupaldiz_close(&world->keeper, world->cpus, below(2)));
+		DONE(kupaldiz_close(&keeper, cpus, below(2)));
 	for (unsigned i = 0; i < 2; i++)
-		DONE(kupaldiz_close(below(2) ? NULL : &world->keeper, world->cpus, cpus));
-	DONE(kupaldiz_close(&world->keeper, NULL, 0));
+		DONE(kupaldiz_close(below(2) ? NULL : &keeper, cpus, settings.cpus));
+	DONE(kupaldiz_close(&keeper, NULL, 0));
 	allowed = UINT64_MAX;
-	expect_closed(world);
-	__real_free(world);
+	for (unsigned c = 0; c < settings.cpus; c++)
+		IS(EMPTY_HANDLE, kupaldiz_depth(&cpus[c], NULL));
+	IS(EMPTY_HANDLE, kupaldiz_settings_of(&keeper, NULL));
+	EXPECT(blocks == 0 || !IS_WRAPPED);
 }
 
 /* At the end of the history no attach is done, and each live entry can still be detached. */
-static void end_history(struct world *world)
+static void end_history(void)
 {
-	static const int calls[] = {ATTACH, ATTACH_IFACE, REPLACE};
-	settle(world);
-	if (model_room(&world->model) == KUPALDIZ_HISTORY_FULL)
-		for (unsigned i = 0; i < 3 * NAMES; i++)
-			act(world, &ROWS[calls[i % 3]]);
-	while (count_of(&world->model, LIVE) > 0)
-		act(world, &ROWS[DETACH]);
-	settle(world);
-	audit(world);
+	settle();
+	if (first_vacant() != NULL)
+		same(kupaldiz_room(&keeper), KUPALDIZ_HISTORY_FULL);
+	for (unsigned i = 0; i < 3 * NAMES; i++)
+		(i % 2 == 0 ? attach : replace)();
+	for (unsigned s = 0; s < settings.slots; s++)
+		if (slots[s].state == LIVE)
+			detach_named(slots[s].entry.kind, &slots[s].entry.name);
+	settle();
+	EXPECT(count_of(VACANT) == settings.slots);
+	audit();
 }
 
-/* The last changes before the limit, one by one, and the end. How many changes there were. */
-static uint64_t run_out(struct world *world)
+/* All changes of a registry, and the end. */
+static void run(const struct kupaldiz_settings *of, uint64_t seed, bool is_watched)
 {
-	for (unsigned turn = 0; turn < 100 * SLOTS; turn++)
-		act_any(world);
-	end_history(world);
-	const uint64_t changes = world->model.changes;
-	closed(world);
-	return changes;
-}
-
-/* Whether CPU 0 has come to the end of its sections, where few are allowed. */
-static bool is_spent(const struct model *model)
-{
-	return model->settings.section_limit == KUPALDIZ_MOST_SECTIONS ||
-	    model->cpus[0].least == model->settings.section_limit;
-}
-
-/* A small registry to its end. */
-static void run(const struct kupaldiz_settings *settings, uint64_t seed)
-{
-	struct world *world = opened(settings, seed);
-	const struct model *model = &world->model;
-	const uint64_t changes = settings->change_limit - SLOTS - 2;
-	const uint64_t most = 200 * settings->change_limit;
-	for (uint64_t turn = 1; turn < most; turn++) {
-		enum writer writer = act_any(world);
-		if (turn % 1024 == 0) {
-			settle(world);
+	open_registry(of, seed);
+	const uint64_t most = 100 * of->change_limit + 100000;
+	for (uint64_t turns = 1; changes + count_of(LIVE) + 2 <= of->change_limit; turns++) {
+		enum writer writer = act_any(is_watched || turns % 8 == 0 ? 100 : CHANGES);
+		if (turns % 512 == 0) {
+			settle();
 			writer = BOTH;
 		}
-		if (table != NULL)
-			same_writers(world, writer);
-		if (model->changes >= changes && is_spent(model))
-			break;
+		if (is_watched)
+			same_writers(writer);
+		EXPECT(turns < most);
 	}
-	EXPECT(model->changes >= changes && is_spent(model));
-	run_out(world);
+	end_history();
+	close_registry();
 }
 
-/* A registry to the end of so many changes: by turns all calls, and those that change. */
-static uint64_t run_long(uint64_t changes, uint64_t seed)
-{
-	enum { TURNS = 32 * SLOTS, HURRIED = 600 };
-	struct kupaldiz_settings largest = KUPALDIZ_SETTINGS(CPUS, SLOTS);
-	largest.change_limit = changes;
-	struct world *world = opened(&largest, seed);
-	const struct model *model = &world->model;
-	const uint64_t most = 20 * changes;
-	for (uint64_t turn = 0; model->changes + SLOTS + 2 < changes && turn < most; turn++) {
-		if (turn % (TURNS + HURRIED) == TURNS)
-			settle(world);
-		if (turn % (TURNS + HURRIED) < TURNS)
-			act_any(world);
-		else
-			hurry(world);
-	}
-	EXPECT(model->changes + SLOTS + 2 >= changes);
-	return run_out(world);
-}
-
-/* Where sections, references and counts come to their limits: each registry is small. */
+/* Of each number of CPUs and slots. */
 static void run_small(uint64_t seed)
 {
-	struct kupaldiz_settings settings = {1, 1, 300 + SLOTS + 2, KUPALDIZ_MOST_SECTIONS, 3, 3};
+	struct kupaldiz_settings small = KUPALDIZ_SETTINGS(1, 1);
 	for (uint64_t i = 0; i < SMALL; i++) {
-		settings.cpus = 1 + i % CPUS;
-		settings.slots = 1 + i % SLOTS;
-		settings.section_limit = i % 2 == 0 ? KUPALDIZ_MOST_SECTIONS : 5 + i % 97;
-		run(&settings, seed + i);
+		small.cpus = 1 + i % 8;
+		small.slots = 1 + i % 32;
+		small.change_limit = 300 + i;
+		run(&small, seed + i, true);
 	}
 }
 
-/* ---- Very many references, and the exact end of sections. ---- */
-
-/* Makes a call of a row on this CPU, with the first name. */
-static enum kupaldiz_result make_on(struct world *world, unsigned at, const struct row *row)
+static void run_long(uint64_t cpu_count, uint64_t slot_count, uint64_t limit, uint64_t seed)
 {
-	struct given given = given_on(world, at);
-	given.kind = KUPALDIZ_DRIVER;
-	given.name = &names[0];
-	given.value = 7;
-	return compare(world, &given, row);
+	struct kupaldiz_settings of = KUPALDIZ_SETTINGS(cpu_count, slot_count);
+	of.change_limit = limit;
+	run(&of, seed, false);
 }
 
-/* Sections nest to the greatest depth, and no deeper. */
-static void nest(struct world *world)
-{
-	for (unsigned i = 0; i < KUPALDIZ_MOST_DEPTH; i++)
-		same(make_on(world, 0, &ROWS[ENTER]), KUPALDIZ_DONE);
-	same(make_on(world, 0, &ROWS[ENTER]), KUPALDIZ_TOO_DEEP);
-	let_all_go(world);
-}
+/* ---- Very many references. ---- */
 
-/* By enters alone a CPU begins exactly as many sections as it may. Then no lookup is made. */
-static void spend_sections(void)
+static enum kupaldiz_result get_local(unsigned cpu, struct kupaldiz_local *to)
 {
-	static const int calls[] = {ENTER, LOOK_UP, ENTER_FIND, GET_LOCAL};
-	const struct kupaldiz_settings settings = {2, 2, 100, 37, 3, 3};
-	struct world *world = opened(&settings, 1);
-	same(make_on(world, 1, &ROWS[ATTACH]), KUPALDIZ_DONE);
-	for (unsigned i = 0; i < 37; i++) {
-		same(make_on(world, 0, &ROWS[ENTER]), KUPALDIZ_DONE);
-		same(make_on(world, 0, &ROWS[i % 2 == 0 ? ENTER : LOOK_UP]), KUPALDIZ_DONE);
-		let_all_go(world);
-	}
-	for (size_t i = 0; i < COUNT_OF(calls); i++)
-		same(make_on(world, 0, &ROWS[calls[i]]), KUPALDIZ_SECTIONS_SPENT);
-	closed(world);
-}
-
-/* A call of a row on this CPU is done. How many blocks more are in use then. */
-static int64_t blocks_by(struct world *world, unsigned at, int row)
-{
-	const uint64_t before = blocks;
-	same(make_on(world, at, &ROWS[row]), KUPALDIZ_DONE);
-	return (int64_t)(blocks - before);
+	return kupaldiz_get_local(&cpus[cpu], KUPALDIZ_DRIVER, &names[0], to);
 }
 
 /*
@@ -445,129 +674,133 @@ static int64_t blocks_by(struct world *world, unsigned at, int row)
  */
 static void keep_blocks(void)
 {
-	const struct kupaldiz_settings settings = {2, 2, 100, 1000, 3, 100};
-	struct world *world = opened(&settings, 1);
-	same(make_on(world, 1, &ROWS[ATTACH]), KUPALDIZ_DONE);
-	EXPECT(blocks_by(world, 0, GET_LOCAL) == 1);
-	for (unsigned i = 0; i < 100; i++)
-		EXPECT(blocks_by(world, 0, RELEASE_LOCAL) == 0 &&
-		    blocks_by(world, 0, GET_LOCAL) == 0);
-	EXPECT(blocks_by(world, 1, RELEASE_LOCAL) == 0);
-	EXPECT(blocks_by(world, 0, GET_LOCAL) == 1 && blocks_by(world, 1, GET_LOCAL) == 0);
-	EXPECT(blocks_by(world, 0, RELEASE_LOCAL) == 0 && blocks_by(world, 0, RELEASE_LOCAL) == -1);
+	/* On which CPU, whether it is acquired or released, and how many blocks more are in use. */
+	static const struct { unsigned cpu; bool acquires; int more; } steps[] = {
+		{0, true, 1}, {0, false, 0}, {0, true, 0}, {1, false, 0}, {0, true, 1},
+		{1, true, 0}, {0, false, 0}, {0, false, -1},
+	};
+	const struct kupaldiz_settings of = {2, 2, 100, 1000, 3, 100};
+	struct kupaldiz_local local[4] = {0};
+	struct kupaldiz_entry found;
+	unsigned held = 0;
+	open_registry(&of, 1);
+	DONE(kupaldiz_attach(&keeper, &cpus[1], &names[0], 7, NULL));
+	for (size_t i = 0; i < COUNT_OF(steps); i++) {
+		const uint64_t before = blocks;
+		DONE(steps[i].acquires ? get_local(steps[i].cpu, &local[held++])
+		    : kupaldiz_try_release_local(&cpus[steps[i].cpu], &local[--held]));
+		EXPECT((int)(blocks - before) == steps[i].more);
+	}
 	allowed = 0;
-	EXPECT(blocks_by(world, 0, GET_LOCAL) == 0);
-	same(make_on(world, 1, &ROWS[GET_LOCAL]), KUPALDIZ_NO_MEMORY);
+	DONE(get_local(0, &local[0]));
+	IS(NO_MEMORY, get_local(1, &local[1]));
+	DONE(kupaldiz_enter_find(&cpus[1], KUPALDIZ_DRIVER, &names[0], &found));
+	IS(NO_MEMORY, kupaldiz_acquire_local(&cpus[1], &found, &local[1]));
+	DONE(kupaldiz_exit(&cpus[1]));
+	IS(NO_MEMORY, kupaldiz_copy_local(&local[0], &local[1]));
+	EXPECT(local[1].entry.number == 0);
 	allowed = UINT64_MAX;
-	let_all_go(world);
-	closed(world);
+	DONE(kupaldiz_try_release_local(&cpus[0], &local[0]));
+	close_registry();
 }
 
 /* The CPU of a reference: CPU 0 in most cases, and each of the others now and then. */
 static unsigned holder(unsigned reference)
 {
-	return reference % 16 == 0 ? 1 + reference / 16 % (CPUS - 1) : 0;
+	return reference % 16 == 15 ? 1 + reference / 16 % 7 : 0;
 }
 
-/* Very many references of each kind to one entry. Those that are passive are made again later. */
-static void acquire_often(struct world *world, struct kupaldiz_local *handles)
+/* Of a number of references that are left, what a turn meets. */
+static void expect_met(uint64_t number, enum kupaldiz_stage stage, uint64_t what)
 {
-	const struct kupaldiz_name *name = &names[0];
+	struct kupaldiz_met met;
+	same(kupaldiz_destroy(&keeper, number, &met),
+	    stage == KUPALDIZ_FREED ? KUPALDIZ_DONE : KUPALDIZ_STILL_HELD);
+	EXPECT(met.stage == stage && met.what == what);
+}
+
+/* Those that are passive are made again later. */
+static void acquire_often(struct kupaldiz_local *handles)
+{
 	for (unsigned i = 0; i < MANY; i++) {
 		struct kupaldiz_passive reference = {0};
-		const unsigned cpu = holder(i);
-		DONE(kupaldiz_get_local(&world->cpus[cpu], KUPALDIZ_DRIVER, name, &handles[i]));
-		DONE(kupaldiz_get(&world->cpus[cpu], KUPALDIZ_DRIVER, name, &reference));
-		world->model.said = KUPALDIZ_DONE;
-		DONE(model_get_local(&world->model, cpu, KUPALDIZ_DRIVER, name));
-		DONE(model_get(&world->model, cpu, KUPALDIZ_DRIVER, name));
+		DONE(get_local(holder(i), &handles[i]));
+		DONE(kupaldiz_get(&cpus[holder(i)], KUPALDIZ_DRIVER, &names[0], &reference));
 	}
 }
 
-static void release_passives(struct world *world, uint64_t number)
+static void release_often(uint64_t number, struct kupaldiz_local *handles)
 {
 	for (unsigned i = 0; i < MANY; i++) {
-		struct kupaldiz_passive reference = {{.number = number}, holder(i)};
+		struct kupaldiz_passive reference = {{.number = number}, holder(MANY - 1 - i)};
 		if (i % 1000 == 0)
-			same(destroy(world, number), KUPALDIZ_STILL_HELD);
-		DONE(model_release(&world->model, holder(i), &reference));
-		DONE(kupaldiz_release(&world->cpus[holder(i)], &reference));
+			expect_met(number, KUPALDIZ_PASSIVE, 0);
+		DONE(kupaldiz_release(&cpus[reference.cpu], &reference));
 	}
-}
-
-/* All but the last one, on all CPUs in turn. */
-static void release_locals(struct world *world, uint64_t number, struct kupaldiz_local *handles)
-{
-	struct model *model = &world->model;
 	for (unsigned i = 0; i + 1 < MANY; i++) {
-		const unsigned cpu = i % CPUS;
-		if (i % 1000 == 0)
-			same(destroy(world, number), KUPALDIZ_STILL_HELD);
-		if (same(kupaldiz_try_release_local(&world->cpus[cpu], &handles[i]),
-		    model_try_release_local(model, cpu, number)) == KUPALDIZ_COLLECTED)
-			same(kupaldiz_release_local_locked(&world->keeper, NULL, &handles[i]),
-			    model_release_local_locked(model, CPUS, number));
+		const bool is_collected = i >= 1000 || MANY < 1000;
+		if (i % 1000 == 0 && is_collected)
+			expect_met(number, KUPALDIZ_LOCAL, MANY - i);
+		same(kupaldiz_try_release_local(&cpus[i % 8], &handles[i]),
+		    is_collected ? KUPALDIZ_COLLECTED : KUPALDIZ_DONE);
+		if (is_collected)
+			DONE(kupaldiz_release_local_locked(&keeper, NULL, &handles[i]));
 	}
 }
 
 /* Very many copies of the last one, each of the one before. They are one to the table. */
-static void copy_often(struct world *world, uint64_t number, struct kupaldiz_local *handles)
+static void copy_often(uint64_t number, struct kupaldiz_local *handles)
 {
 	for (unsigned i = MANY - 1; i > 0; i--)
 		DONE(kupaldiz_copy_local(&handles[i], &handles[i - 1]));
-	same(destroy(world, number), KUPALDIZ_STILL_HELD);
+	expect_met(number, KUPALDIZ_LOCAL, 1);
 	for (unsigned i = 1; i < MANY; i++)
-		DONE(kupaldiz_release_local_locked(&world->keeper, &world->cpus[0], &handles[i]));
-	EXPECT(model_slot_of(&world->model, number)->locals == 1);
-	same(destroy(world, number), KUPALDIZ_STILL_HELD);
+		DONE(kupaldiz_release_local_locked(&keeper, i % 2 == 0 ? NULL : &cpus[0],
+		    &handles[i]));
+	expect_met(number, KUPALDIZ_LOCAL, 1);
+	DONE(kupaldiz_release_local_locked(&keeper, NULL, &handles[0]));
+	expect_met(number, KUPALDIZ_FREED, 0);
 }
 
 /* One entry, with very many references of each kind, is freed once all are released. */
 static void refer_often(void)
 {
-	const struct kupaldiz_settings settings = KUPALDIZ_SETTINGS(CPUS, SLOTS);
-	struct world *world = opened(&settings, 1);
+	const struct kupaldiz_settings of = KUPALDIZ_SETTINGS(8, 2);
 	struct kupaldiz_local *handles = calloc(MANY, sizeof *handles);
+	struct kupaldiz_balance balance;
+	struct kupaldiz_entry gone;
 	EXPECT(handles != NULL);
-	nest(world);
-	same(make_on(world, 0, &ROWS[ATTACH]), KUPALDIZ_DONE);
-	acquire_often(world, handles);
-	const uint64_t number = handles[0].entry.number;
-	audit(world);
-	same(make_on(world, 1, &ROWS[DETACH]), KUPALDIZ_DONE);
-	release_passives(world, number);
-	release_locals(world, number, handles);
-	copy_often(world, number, handles);
-	audit(world);
-	struct kupaldiz_local copy = {0};
-	DONE(kupaldiz_copy_local(&handles[0], &copy));
-	DONE(kupaldiz_release_local_locked(&world->keeper, NULL, &handles[0]));
-	same(destroy(world, number), KUPALDIZ_STILL_HELD);
-	DONE(kupaldiz_release_local_locked(&world->keeper, NULL, &copy));
-	model_release_local_locked(&world->model, CPUS, number);
-	same(destroy(world, number), KUPALDIZ_DONE);
+	open_registry(&of, 1);
+	DONE(kupaldiz_attach(&keeper, &cpus[0], &names[0], 7, NULL));
+	acquire_often(handles);
+	DONE(kupaldiz_audit(&keeper, cpus, 8, &balance, 1, NULL));
+	EXPECT(balance.held == MANY && balance.total == 0);
+	DONE(kupaldiz_detach(&keeper, &cpus[1], KUPALDIZ_DRIVER, &names[0], &gone));
+	release_often(gone.number, handles);
+	copy_often(gone.number, handles);
 	__real_free(handles);
-	closed(world);
+	close_registry();
 }
 
 int main(int argc, char **argv)
 {
-	uint64_t changes = argc > 1 ? strtoull(argv[1], NULL, 10) : LONGEST;
+	const uint64_t limit = argc > 1 ? strtoull(argv[1], NULL, 10) : LONGEST;
 	const uint64_t seed = argc > 2 ? strtoull(argv[2], NULL, 10) : 1;
-	const char *part = argc > 3 ? argv[3] : NULL;
+	const char *part = argc > 3 ? argv[3] : "";
 	/* Every other name is no text. */
 	for (unsigned i = 0; i < NAMES; i++)
 		names[i] = i % 2 == 0 ? numbered('n', i) : (struct kupaldiz_name){i / 4, i};
-	if (part == NULL || strcmp(part, "counts") == 0) {
-		spend_sections();
+	if (*part == 0 || strcmp(part, "counts") == 0) {
 		if (IS_WRAPPED)
 			keep_blocks();
 		refer_often();
 	}
-	if (part == NULL || strcmp(part, "small") == 0)
+	if (*part == 0 || strcmp(part, "small") == 0)
 		run_small(seed);
-	if (part == NULL || strcmp(part, "long") == 0)
-		changes = run_long(changes, seed);
-	printf("history: %" PRIu64 " calls compared, %" PRIu64 " changes\n", compared, changes);
+	if (*part == 0 || strcmp(part, "long") == 0)
+		run_long(8, 32, limit, seed);
+	if (strcmp(part, "largest") == 0)
+		run_long(CPUS, SLOTS, limit, seed);
+	printf("history: %" PRIu64 " calls compared\n", compared);
 	return 0;
 }

@@ -4,7 +4,8 @@
  *
  * A row of ROWS has a call and what may be wrong with it, in the order in which kupaldiz.h says
  * that it is tested. The call is made with each set of these faults: it returns what the first of
- * them is for, changes nothing and writes nothing. With no fault it is done.
+ * them is for, changes nothing and writes nothing. With no fault it is done. Each is made once more
+ * without a place for what it may leave unwritten.
  */
 #include <signal.h>
 #include <sys/mman.h>
@@ -35,7 +36,7 @@ static struct bench {
 } benches[BENCHES];
 
 static struct kupaldiz_name wm, full, fresh, absent;
-static struct kupaldiz_cpu no_cpu;
+static struct kupaldiz_cpu no_cpu, swapped[CPUS], with_empty[CPUS];	/* ROOMY's */
 static struct kupaldiz_keeper no_keeper;
 static struct kupaldiz_passive no_passive, not_held;
 static struct kupaldiz_local no_local;
@@ -58,7 +59,8 @@ struct given {
 	struct kupaldiz_wait *wait;
 	const struct kupaldiz_settings *settings;
 	uint64_t number;
-	bool lacks;			/* what the call reads or writes is NULL */
+	bool lacks;			/* what the call reads or needs to write is NULL */
+	bool is_mute;			/* and so is what it writes besides */
 	bool is_full;			/* the keeper */
 };
 
@@ -97,6 +99,8 @@ struct written {
 	X(NULL_SETTINGS, NULL, given->settings = NULL)						\
 	X(NO_SETTING, BAD_SETTINGS, given->settings = &NO_SETTINGS)				\
 	X(LESS_CPUS, MISSING_CPU, given->count = CPUS - 1)					\
+	X(OTHER_CPUS, MISSING_CPU, given->cpus = swapped)					\
+	X(EMPTY_CPU, MISSING_CPU, given->cpus = with_empty)					\
 	X(NO_KIND, BAD_KIND, given->kind = given->entry.kind = (enum kupaldiz_kind)258)		\
 	X(ZERO_NAME, BAD_NAME, given->name = &NO_NAME; given->entry.name = NO_NAME)		\
 	X(ZERO_DRIVER, BAD_NAME, given->driver = &NO_NAME)					\
@@ -146,6 +150,7 @@ static const struct {
 #define PASSIVE	(in->full != NULL ? in->full : &out->passive)
 #define LOCAL	(in->full_local != NULL ? in->full_local : &out->local)
 #define PLACE(member)	(in->lacks ? NULL : &out->member)
+#define OUT(member)	(in->is_mute ? NULL : &out->member)
 
 #define CALL(name, arguments)									\
 	static enum kupaldiz_result call_##name(const struct given *in, struct written *out)	\
@@ -157,36 +162,36 @@ static const struct {
 CALL(open, (in->settings, in->is_full ? &in->on->keeper : &out->keeper,
     in->cpus != NULL ? out->cpus : NULL, in->count))
 CALL(close, (NULL, in->cpus, in->count))
-CALL(settings_of, (in->keeper, &out->settings))
+CALL(settings_of, (in->keeper, OUT(settings)))
 CALL(enter, (in->cpu))
 CALL(exit, (in->cpu))
-CALL(depth, (in->cpu, &out->number))
-CALL(look_up, (in->cpu, in->kind, in->name, &out->entry))
-CALL(find, (in->cpu, in->kind, in->name, &out->entry))
-CALL(enter_find, (in->cpu, in->kind, in->name, &out->entry))
-CALL(walk, (in->cpu, in->lacks ? NULL : out->row, in->room, &out->length))
+CALL(depth, (in->cpu, OUT(number)))
+CALL(look_up, (in->cpu, in->kind, in->name, OUT(entry)))
+CALL(find, (in->cpu, in->kind, in->name, OUT(entry)))
+CALL(enter_find, (in->cpu, in->kind, in->name, OUT(entry)))
+CALL(walk, (in->cpu, in->lacks ? NULL : out->row, in->room, OUT(length)))
 CALL(get, (in->cpu, in->kind, in->name, PASSIVE))
 CALL(acquire, (in->cpu, in->lacks ? NULL : &in->entry, PASSIVE))
 CALL(copy, (in->cpu, in->from, PASSIVE))
 CALL(release, (in->cpu, in->from))
-CALL(held, (in->cpu, in->number, &out->is_so))
+CALL(held, (in->cpu, in->number, OUT(is_so)))
 CALL(get_local, (in->cpu, in->kind, in->name, LOCAL))
 CALL(acquire_local, (in->cpu, in->lacks ? NULL : &in->entry, LOCAL))
 CALL(copy_local, (in->local, LOCAL))
 CALL(release_local_locked, (in->keeper, in->cpu, in->local))
 CALL(try_release_local, (in->cpu, in->local))
 CALL(forget_local, (in->local))
-CALL(attach, (in->keeper, in->cpu, in->name, 7, &out->entry))
-CALL(attach_iface, (in->keeper, in->cpu, in->driver, in->name, 7, &out->entry))
-CALL(replace, (in->keeper, in->cpu, in->name, 7, PLACE(gone), &out->entry))
-CALL(replace_iface, (in->keeper, in->cpu, in->driver, in->name, 7, PLACE(gone), &out->entry))
+CALL(attach, (in->keeper, in->cpu, in->name, 7, OUT(entry)))
+CALL(attach_iface, (in->keeper, in->cpu, in->driver, in->name, 7, OUT(entry)))
+CALL(replace, (in->keeper, in->cpu, in->name, 7, PLACE(gone), OUT(entry)))
+CALL(replace_iface, (in->keeper, in->cpu, in->driver, in->name, 7, PLACE(gone), OUT(entry)))
 CALL(detach, (in->keeper, in->cpu, in->kind, in->name, PLACE(gone)))
 CALL(room, (in->keeper))
-CALL(destroy, (in->keeper, in->number, &out->met))
+CALL(destroy, (in->keeper, in->number, OUT(met)))
 CALL(perform_begin, (in->keeper, in->cpu, in->wait))
-CALL(perform_turn, (in->keeper, in->cpu, in->wait, &out->number))
+CALL(perform_turn, (in->keeper, in->cpu, in->wait, OUT(number)))
 CALL(audit, (in->keeper, in->cpus, in->count, in->lacks ? NULL : out->list, in->room,
-    &out->length))
+    OUT(length)))
 
 /* A call, the CPU and the name that it gets if these are right, and its faults in their order. */
 static const struct row {
@@ -197,53 +202,51 @@ static const struct row {
 	enum fault faults[MOST_FAULTS];
 } ROWS[] = {
 #define ROW(call, at, of, ...)	{#call, call_##call, at, of, {__VA_ARGS__}}
+#define FINDS		NO_CPU, NULL_NAME, NO_KIND, ZERO_NAME
+#define GETS(full)	NO_CPU, full, NULL_NAME, NO_KIND, ZERO_NAME
+#define ACQUIRES(full)	NO_CPU, full, NULL_PLACE, NO_KIND, ZERO_NAME, IS_OUT, IS_ABSENT
+#define CHANGES		NO_KEEPER, NO_CPU
+#define ON_DRIVER	ZERO_DRIVER, ZERO_NAME, IS_IN, IS_SPENT, NO_DRIVER, DRIVERS
 	ROW(open, OUTER, NULL, FULL_KEEPER, NULL_SETTINGS, NULL_CPUS, NO_SETTING, LESS_CPUS),
 	ROW(close, OUTER, NULL, NULL_CPUS, IS_IN),
 	ROW(settings_of, OUTER, NULL, NO_KEEPER),
 	ROW(enter, OUTER, NULL, NO_CPU, IS_DEEP, IS_SPENT),
 	ROW(exit, INNER, NULL, NO_CPU, IS_OUT),
 	ROW(depth, INNER, NULL, NO_CPU),
-	ROW(look_up, OUTER, &wm, NO_CPU, NULL_NAME, NO_KIND, ZERO_NAME, IS_SPENT, IS_ABSENT),
-	ROW(look_up, DEEP, &wm, NO_CPU, NULL_NAME, NO_KIND, ZERO_NAME, IS_ABSENT),
-	ROW(find, INNER, &wm, NO_CPU, NULL_NAME, NO_KIND, ZERO_NAME, IS_OUT, IS_ABSENT),
-	ROW(enter_find, OUTER, &wm, NO_CPU, NULL_NAME, NO_KIND, ZERO_NAME, IS_DEEP, IS_SPENT,
-	    IS_ABSENT),
+	ROW(look_up, OUTER, &wm, FINDS, IS_SPENT, IS_ABSENT),
+	ROW(look_up, DEEP, &wm, FINDS, IS_ABSENT),
+	ROW(find, INNER, &wm, FINDS, IS_OUT, IS_ABSENT),
+	ROW(enter_find, OUTER, &wm, FINDS, IS_DEEP, IS_SPENT, IS_ABSENT),
 	ROW(walk, INNER, NULL, NO_CPU, NULL_PLACE, IS_OUT, LESS_ROOM),
-	ROW(get, OUTER, &wm, NO_CPU, FULL_PASSIVE, NULL_NAME, NO_KIND, ZERO_NAME, IS_SPENT,
-	    IS_ABSENT, PASSIVES),
-	ROW(get, DEEP, &wm, NO_CPU, FULL_PASSIVE, NULL_NAME, NO_KIND, ZERO_NAME, IS_ABSENT),
-	ROW(acquire, INNER, NULL, NO_CPU, FULL_PASSIVE, NULL_PLACE, NO_KIND, ZERO_NAME, IS_OUT,
-	    IS_ABSENT, PASSIVES),
+	ROW(get, OUTER, &wm, GETS(FULL_PASSIVE), IS_SPENT, IS_ABSENT, PASSIVES),
+	ROW(get, DEEP, &wm, GETS(FULL_PASSIVE), IS_ABSENT),
+	ROW(acquire, INNER, NULL, ACQUIRES(FULL_PASSIVE), PASSIVES),
 	ROW(copy, INNER, NULL, NO_CPU, NO_FROM, FULL_PASSIVE, NOT_ITS, NO_HOLD, PASSIVES),
 	ROW(release, INNER, NULL, NO_CPU, NO_FROM, NOT_ITS, NO_HOLD),
 	ROW(held, INNER, NULL, NO_CPU),
-	ROW(get_local, OUTER, &wm, NO_CPU, FULL_LOCAL, NULL_NAME, NO_KIND, ZERO_NAME, IS_SPENT,
-	    IS_ABSENT, LOCALS),
-	ROW(get_local, INNER, &wm, NO_CPU, FULL_LOCAL, NULL_NAME, NO_KIND, ZERO_NAME, IS_ABSENT,
-	    LOCALS),
-	ROW(acquire_local, INNER, NULL, NO_CPU, FULL_LOCAL, NULL_PLACE, NO_KIND, ZERO_NAME, IS_OUT,
-	    IS_ABSENT, LOCALS),
+	ROW(get_local, OUTER, &wm, GETS(FULL_LOCAL), IS_SPENT, IS_ABSENT, LOCALS),
+	ROW(get_local, INNER, &wm, GETS(FULL_LOCAL), IS_ABSENT, LOCALS),
+	ROW(acquire_local, INNER, NULL, ACQUIRES(FULL_LOCAL), LOCALS),
 	ROW(copy_local, OUTER, NULL, NO_LOCAL, FULL_LOCAL),
-	ROW(release_local_locked, OUTER, NULL, NO_KEEPER, NO_CPU, NO_LOCAL, NO_COUNT),
+	ROW(release_local_locked, OUTER, NULL, CHANGES, NO_LOCAL, NO_COUNT),
 	ROW(try_release_local, OUTER, NULL, NO_CPU, NO_LOCAL, IS_COLLECTED),
 	ROW(forget_local, OUTER, NULL, NO_LOCAL),
-	ROW(attach, OUTER, &fresh, NO_KEEPER, NO_CPU, NULL_NAME, ZERO_NAME, IS_IN, IS_TAKEN,
-	    IS_CROWDED, IS_ENDED),
-	ROW(attach_iface, OUTER, &fresh, NO_KEEPER, NO_CPU, NULL_DRIVER, NULL_NAME, ZERO_DRIVER,
-	    ZERO_NAME, IS_IN, IS_SPENT, NO_DRIVER, DRIVERS, IS_TAKEN, IS_CROWDED, IS_ENDED),
-	ROW(replace, OUTER, &wm, NO_KEEPER, NO_CPU, NULL_NAME, NULL_PLACE, ZERO_NAME, IS_IN,
-	    IS_ABSENT, IS_CROWDED, IS_ENDED),
-	ROW(replace_iface, OUTER, &wm, NO_KEEPER, NO_CPU, NULL_DRIVER, NULL_NAME, NULL_PLACE,
-	    ZERO_DRIVER, ZERO_NAME, IS_IN, IS_SPENT, NO_DRIVER, DRIVERS, IS_ABSENT, IS_CROWDED,
+	ROW(attach, OUTER, &fresh, CHANGES, NULL_NAME, ZERO_NAME, IS_IN, IS_TAKEN, IS_CROWDED,
 	    IS_ENDED),
-	ROW(detach, OUTER, &wm, NO_KEEPER, NO_CPU, NULL_NAME, NULL_PLACE, NO_KIND, ZERO_NAME, IS_IN,
+	ROW(attach_iface, OUTER, &fresh, CHANGES, NULL_DRIVER, NULL_NAME, ON_DRIVER, IS_TAKEN,
+	    IS_CROWDED, IS_ENDED),
+	ROW(replace, OUTER, &wm, CHANGES, NULL_NAME, NULL_PLACE, ZERO_NAME, IS_IN, IS_ABSENT,
+	    IS_CROWDED, IS_ENDED),
+	ROW(replace_iface, OUTER, &wm, CHANGES, NULL_DRIVER, NULL_NAME, NULL_PLACE, ON_DRIVER,
+	    IS_ABSENT, IS_CROWDED, IS_ENDED),
+	ROW(detach, OUTER, &wm, CHANGES, NULL_NAME, NULL_PLACE, NO_KIND, ZERO_NAME, IS_IN,
 	    IS_ABSENT),
 	ROW(room, OUTER, NULL, NO_KEEPER, IS_CROWDED, IS_ENDED),
 	ROW(destroy, OUTER, NULL, NO_KEEPER, IS_LIVE, IS_HELD),
-	ROW(perform_begin, OUTER, NULL, NO_KEEPER, NO_CPU, NULL_WAIT, IS_IN),
-	ROW(perform_turn, OUTER, NULL, NO_KEEPER, NO_CPU, NULL_WAIT, UNBEGUN, NOT_ITS, IS_IN,
-	    IS_EARLY),
-	ROW(audit, OUTER, NULL, NO_KEEPER, NULL_CPUS, NULL_PLACE, LESS_CPUS, LESS_ROOM),
+	ROW(perform_begin, OUTER, NULL, CHANGES, NULL_WAIT, IS_IN),
+	ROW(perform_turn, OUTER, NULL, CHANGES, NULL_WAIT, UNBEGUN, NOT_ITS, IS_IN, IS_EARLY),
+	ROW(audit, OUTER, NULL, NO_KEEPER, NULL_CPUS, NULL_PLACE, LESS_CPUS, OTHER_CPUS, EMPTY_CPU,
+	    LESS_ROOM),
 };
 
 /* ---- What was there before. ---- */
@@ -363,12 +366,13 @@ static bool writes(enum kupaldiz_result result)
 
 static unsigned long compared;
 
-static void try(const struct row *row, unsigned faults)
+static void try(const struct row *row, unsigned faults, bool is_mute)
 {
 	static struct bench before[BENCHES];
 	static struct written out, untouched;
 	struct given given;
 	const enum kupaldiz_result wanted = prepare(row, faults, &given);
+	given.is_mute = is_mute;
 	memcpy(before, benches, sizeof before);
 	memset(&untouched, 0x5a, sizeof untouched);
 	memset(&untouched, 0, offsetof(struct written, entry));
@@ -387,7 +391,7 @@ static void try(const struct row *row, unsigned faults)
 	compared++;
 }
 
-static void try_each(const struct row *row)
+static void try_each(const struct row *row, bool is_mute)
 {
 	unsigned count = 0;
 	while (count < MOST_FAULTS && row->faults[count] != NOTHING)
@@ -395,8 +399,13 @@ static void try_each(const struct row *row)
 	for (unsigned i = 0; i < BENCHES; i++)
 		open_bench(&benches[i]);
 	not_held = (struct kupaldiz_passive){.entry = benches[ROOMY].retired, .cpu = INNER};
+	memcpy(swapped, benches[ROOMY].cpus, sizeof swapped);
+	memcpy(with_empty, swapped, sizeof swapped);
+	swapped[INNER] = with_empty[OUTER];
+	swapped[OUTER] = with_empty[INNER];
+	with_empty[OUTER] = no_cpu;
 	for (unsigned faults = 1U << count; faults-- > 0;)
-		try(row, faults);
+		try(row, faults, is_mute);
 	for (unsigned i = 0; i < BENCHES; i++)
 		close_bench(&benches[i]);
 }
@@ -447,6 +456,26 @@ static void check_acquired(struct bench *bench)
 	EXPECT(same_entry(&passive.entry, &given) && same_entry(&local.entry, &bench->wm));
 	DONE(kupaldiz_release(cpu, &passive));
 	DONE(kupaldiz_release_local_locked(&bench->keeper, cpu, &local));
+}
+
+/* A section acquires what it found last, also once that is retired. A later section doesn't. */
+static void check_found(struct bench *bench)
+{
+	static const enum kupaldiz_result wanted[] = {KUPALDIZ_DONE, KUPALDIZ_NOT_FOUND};
+	struct kupaldiz_cpu *cpu = &bench->cpus[OUTER];
+	struct kupaldiz_entry found, gone;
+	DONE(kupaldiz_enter_find(cpu, KUPALDIZ_DRIVER, &wm, &found));
+	DONE(kupaldiz_detach(&bench->keeper, &bench->cpus[SPENT], KUPALDIZ_DRIVER, &wm, &gone));
+	for (unsigned i = 0; i < COUNT_OF(wanted); i++) {
+		struct kupaldiz_passive passive = {0};
+		struct kupaldiz_local local = {0};
+		EXPECT(kupaldiz_acquire_local(cpu, &found, &local) == wanted[i]);
+		EXPECT(kupaldiz_acquire(cpu, &found, &passive) == wanted[i]);
+		kupaldiz_release(cpu, &passive);
+		kupaldiz_release_local_locked(&bench->keeper, cpu, &local);
+		DONE(kupaldiz_exit(cpu));
+		DONE(kupaldiz_enter(cpu));
+	}
 }
 
 static void count_locals(struct bench *bench, uint64_t held)
@@ -585,13 +614,14 @@ int main(void)
 	full = name_of("full");
 	fresh = name_of("fresh");
 	absent = name_of("absent");
-	for (size_t i = 0; i < COUNT_OF(ROWS); i++)
-		try_each(&ROWS[i]);
+	for (size_t i = 0; i < 2 * COUNT_OF(ROWS); i++)
+		try_each(&ROWS[i / 2], i % 2 != 0);
 	const int status = run_in_child(open_roomy, check_forgotten, said, sizeof said);
 	EXPECT(said[0] == 0 && WIFSIGNALED(status) && WTERMSIG(status) == SIGKILL);
 	open_bench(&benches[ROOMY]);
 	check_acquired(&benches[ROOMY]);
 	check_passive(&benches[ROOMY]);
+	check_found(&benches[ROOMY]);
 	close_bench(&benches[ROOMY]);
 	open_bench(&benches[ROOMY]);
 	check_copies(&benches[ROOMY]);

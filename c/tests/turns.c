@@ -4,9 +4,8 @@
  *
  * The linker leads the registry's calls, the clock, nanosleep, sched_yield and a mutex's calls here
  * (--wrap), and pauses.h the pause instruction. The calls return what the test says, and time is
- * the test's own. A wait is planned at random: its call, its interlock and CPU, its deadline, and
- * what its turns return. While it lets time pass others begin, as on other threads, and end before
- * it goes on.
+ * the test's own. A wait is planned at random: its call and CPU, its deadline, and what its turns
+ * return.
  *
  * Each step has a letter, and the model knows which come next: l and u a mutex locked and unlocked;
  * d a turn of a destroy or of a barrier; b and p a perform's begin and turn; y a yield; s a sleep;
@@ -25,7 +24,7 @@
 #include "wrapped_heap.h"
 
 enum { SPINS = 16, MOST_PAUSES = 256, YIELDS = 8, FIRST_SLEEP = 16000, LONGEST_SLEEP = 8000000 };
-enum { TURN = 100, SECOND = 1000000000, WAITS = 20000, DEEPEST = 4, MOST_TURNS = 60 };
+enum { TURN = 100, SECOND = 1000000000, WAITS = 20000, MOST_TURNS = 60 };
 enum { MANY = 5000001, MOST_ERROR = 133, RESULTS = KUPALDIZ_NO_THREAD + 1 };
 
 /* The CPUs by their places: one that is closed, one in a section, and those outside. */
@@ -57,7 +56,7 @@ static const struct timespec NEVER[] = {{INT64_MAX, 999999999}, {INT64_MAX, 0}, 
 /* A wait that is under way: what its calls return, and what the model knows of it. */
 struct planned {
 	enum call call;
-	unsigned place, cpu;		/* of the interlock, and of the CPU */
+	unsigned cpu;
 	uint64_t number;
 	struct kupaldiz_met met;
 	uint64_t waited;
@@ -76,21 +75,17 @@ struct planned {
 	unsigned pauses;		/* pause instructions that come before the next step */
 	int64_t sleep;			/* the next one's length, if nothing cuts it */
 	enum kupaldiz_result result;	/* the last call's */
-	struct kupaldiz_wait *wait;	/* the perform's, which has a mark */
-	unsigned char mark;
-	struct planned *outer;		/* the wait beneath, which lets time pass */
+	struct kupaldiz_wait *wait;	/* the perform's */
 };
 
 static struct planned *under_way;
-static unsigned depth, waits;
-static uint64_t turns_made, sleeps, yields, late, beside;
-static bool alone;	/* no other wait begins meanwhile */
+static uint64_t turns_made, sleeps, yields, late;
 
 static int64_t now;	/* in nanoseconds: a turn takes TURN of them, and a sleep its length */
-static struct kupaldiz_keeper keepers[PLACES];
+static struct kupaldiz_keeper keeper = {&keeper};	/* no registry's: nothing here comes to one */
 static struct kupaldiz_cpu cpus[PLACES];
-static pthread_mutex_t mutexes[PLACES];
-static struct kupaldiz_interlock interlocks[PLACES];
+static pthread_mutex_t mutex = PTHREAD_MUTEX_INITIALIZER;
+static struct kupaldiz_interlock interlock;
 
 WRAPPED(clock_gettime);
 WRAPPED(nanosleep);
@@ -105,11 +100,6 @@ WRAPPED(pthread_mutex_unlock);
 
 /* What locking and unlocking a mutex fail with, unless it is 0. */
 static int lock_error, unlock_error;
-
-static struct kupaldiz_keeper *keeper_of(const struct planned *wait)
-{
-	return interlocks[wait->place].keeper;
-}
 
 /* The steps that come next: those of a format, where each @ is the letter of the wait's turn. */
 static void expect_next(struct planned *wait, const char *steps)
@@ -158,17 +148,6 @@ static enum kupaldiz_result turn(struct planned *wait)
 	return wait->result;
 }
 
-static void run_wait(void);
-
-/* Time passes: now and then another thread waits. */
-static void pass(unsigned seldom)
-{
-	if (!alone && depth < DEEPEST && below(seldom) == 0) {
-		beside++;
-		run_wait();
-	}
-}
-
 int __wrap_clock_gettime(clockid_t clock, struct timespec *time)
 {
 	EXPECT(clock == CLOCK_MONOTONIC);
@@ -184,7 +163,6 @@ int __wrap_nanosleep(const struct timespec *length, struct timespec *left)
 	wait->sleep = wait->sleep * 2 < LONGEST_SLEEP ? wait->sleep * 2 : LONGEST_SLEEP;
 	now += length->tv_nsec;
 	sleeps++;
-	pass(50);
 	return 0;
 }
 
@@ -192,7 +170,6 @@ int __wrap_sched_yield(void)
 {
 	step('y');
 	yields++;
-	pass(50);
 	return 0;
 }
 
@@ -201,7 +178,6 @@ void pause_seen(void)
 {
 	EXPECT(under_way->pauses > 0 && under_way->next[under_way->at] == 'l');
 	under_way->pauses--;
-	pass(5000);
 }
 
 /* A turn of a barrier is one of the list's entry. */
@@ -209,20 +185,17 @@ enum kupaldiz_result __wrap_kupaldiz_destroy(struct kupaldiz_keeper *of, uint64_
     struct kupaldiz_met *met)
 {
 	struct planned *wait = step('d');
-	EXPECT(of == keeper_of(wait) && number == wait->number);
+	EXPECT(of == &keeper && number == wait->number);
 	EXPECT(wait->call == BARRIER || met == &wait->met);
 	return turn(wait);
 }
 
-/* Each perform has a wait of its own, which nobody else writes. */
 enum kupaldiz_result __wrap_kupaldiz_perform_begin(struct kupaldiz_keeper *of,
     struct kupaldiz_cpu *on, struct kupaldiz_wait *wait)
 {
 	struct planned *own = step('b');
-	EXPECT(of == keeper_of(own) && on == &cpus[own->cpu]);
+	EXPECT(of == &keeper && on == &cpus[own->cpu]);
 	own->wait = wait;
-	own->mark = (unsigned char)++waits;
-	memset(wait, own->mark, sizeof *wait);
 	own->result = own->first;
 	expect_next(own, own->first == KUPALDIZ_DONE ? "ul@" : "u");
 	return own->first;
@@ -232,10 +205,8 @@ enum kupaldiz_result __wrap_kupaldiz_perform_turn(struct kupaldiz_keeper *of,
     struct kupaldiz_cpu *on, struct kupaldiz_wait *wait, uint64_t *waited)
 {
 	struct planned *own = step('p');
-	EXPECT(of == keeper_of(own) && on == &cpus[own->cpu]);
+	EXPECT(of == &keeper && on == &cpus[own->cpu]);
 	EXPECT(wait == own->wait && waited == &own->waited);
-	for (size_t i = 0; i < sizeof *wait; i++)
-		EXPECT(((unsigned char *)wait)[i] == own->mark);
 	return turn(own);
 }
 
@@ -253,27 +224,26 @@ enum kupaldiz_result __wrap_kupaldiz_release_local_locked(struct kupaldiz_keeper
     struct kupaldiz_cpu *on, struct kupaldiz_local *local)
 {
 	struct planned *wait = step('c');
-	EXPECT(of == keeper_of(wait) && on == &cpus[wait->cpu] && local == &wait->local);
+	EXPECT(of == &keeper && on == &cpus[wait->cpu] && local == &wait->local);
 	return wait->result = wait->last;
 }
 
 /* No wait is under way where a mutex's errors are tried. */
-static int call_mutex(int (*real)(pthread_mutex_t *), pthread_mutex_t *mutex, char letter,
-    int error)
+static int call_mutex(int (*real)(pthread_mutex_t *), pthread_mutex_t *of, char letter, int error)
 {
 	if (under_way != NULL)
-		EXPECT(mutex == &mutexes[step(letter)->place]);
-	return error != 0 ? error : real(mutex);
+		EXPECT(step(letter) == under_way && of == &mutex);
+	return error != 0 ? error : real(of);
 }
 
-int __wrap_pthread_mutex_lock(pthread_mutex_t *mutex)
+int __wrap_pthread_mutex_lock(pthread_mutex_t *of)
 {
-	return call_mutex(__real_pthread_mutex_lock, mutex, 'l', lock_error);
+	return call_mutex(__real_pthread_mutex_lock, of, 'l', lock_error);
 }
 
-int __wrap_pthread_mutex_unlock(pthread_mutex_t *mutex)
+int __wrap_pthread_mutex_unlock(pthread_mutex_t *of)
 {
-	return call_mutex(__real_pthread_mutex_unlock, mutex, 'u', unlock_error);
+	return call_mutex(__real_pthread_mutex_unlock, of, 'u', unlock_error);
 }
 
 /* ---- A wait that is planned, and made. ---- */
@@ -322,11 +292,10 @@ static void plan_results(struct planned *wait)
 static void plan(struct planned *wait)
 {
 	*wait = (struct planned){.call = (enum call)below(CALLS), .sleep = FIRST_SLEEP};
-	wait->place = (unsigned)below(PLACES);
 	wait->cpu = (unsigned)below(PLACES);
 	wait->number = below(1000);
-	wait->list = (struct kupaldiz_deferred){.interlock = &interlocks[wait->place],
-	    .entries = wait->row, .room = 1};
+	wait->list = (struct kupaldiz_deferred){.interlock = &interlock, .entries = wait->row,
+	    .room = 1};
 	const struct kupaldiz_entry gone = {.number = wait->number};
 	DONE(kupaldiz_deferred_add(&wait->list, &gone));
 	plan_results(wait);
@@ -341,56 +310,37 @@ static void plan(struct planned *wait)
 static enum kupaldiz_result call(struct planned *wait)
 {
 	const struct timespec *deadline = wait->has_deadline ? &wait->deadline : NULL;
-	const struct kupaldiz_interlock *interlock = &interlocks[wait->place];
 	struct kupaldiz_cpu *cpu = &cpus[wait->cpu];
 	switch (wait->call) {
 	case DESTROY:
-		return kupaldiz_destroy_wait(interlock, cpu, wait->number, deadline, &wait->met);
+		return kupaldiz_destroy_wait(&interlock, cpu, wait->number, deadline, &wait->met);
 	case PERFORM:
-		return kupaldiz_perform_wait(interlock, cpu, deadline, &wait->waited);
+		return kupaldiz_perform_wait(&interlock, cpu, deadline, &wait->waited);
 	case BARRIER:
 		return kupaldiz_deferred_barrier(&wait->list, deadline);
 	default:
-		return kupaldiz_release_local(interlock, cpu, &wait->local);
+		return kupaldiz_release_local(&interlock, cpu, &wait->local);
 	}
 }
 
 /* Makes a planned wait: it ends with the step that the model knows, and returns that result. */
 static void make(struct planned *wait)
 {
-	wait->outer = under_way;
 	under_way = wait;
-	depth++;
 	EXPECT(call(wait) == wait->result && wait->next[wait->at] == 0 && wait->pauses == 0);
-	depth--;
-	under_way = wait->outer;
-}
-
-static void run_wait(void)
-{
-	struct planned wait, *outer = under_way;
-	now += (int64_t)below(UINT64_C(1) << below(31));
 	under_way = NULL;
-	plan(&wait);
-	under_way = outer;
-	make(&wait);
 }
 
 /* ---- All of them. ---- */
 
-/* The CPUs are a registry's, the keepers are none's: nothing here comes to one. */
 static void open_all(void)
 {
 	const struct kupaldiz_settings settings = KUPALDIZ_SETTINGS(PLACES, 1);
-	struct kupaldiz_keeper keeper = {0};
-	DONE(kupaldiz_open(&settings, &keeper, cpus, PLACES));
-	DONE(kupaldiz_close(&keeper, &cpus[CLOSED], 1));
+	struct kupaldiz_keeper opened = {0};
+	DONE(kupaldiz_open(&settings, &opened, cpus, PLACES));
+	DONE(kupaldiz_close(&opened, &cpus[CLOSED], 1));
 	DONE(kupaldiz_enter(&cpus[INNER]));
-	for (unsigned i = 0; i < PLACES; i++) {
-		keepers[i].at = &keepers[i];
-		EXPECT(pthread_mutex_init(&mutexes[i], NULL) == 0);
-		interlocks[i] = kupaldiz_interlock_of_mutex(&keepers[PLACES - 1 - i], &mutexes[i]);
-	}
+	interlock = kupaldiz_interlock_of_mutex(&keeper, &mutex);
 }
 
 static void close_all(void)
@@ -401,9 +351,13 @@ static void close_all(void)
 
 static void test_waits(void)
 {
-	for (unsigned i = 0; i < WAITS; i++)
-		run_wait();
-	EXPECT(sleeps > WAITS && yields > WAITS && late > WAITS / 10 && beside > WAITS / 10);
+	struct planned wait;
+	for (unsigned i = 0; i < WAITS; i++) {
+		now += (int64_t)below(UINT64_C(1) << below(31));
+		plan(&wait);
+		make(&wait);
+	}
+	EXPECT(sleeps > WAITS && yields > WAITS && late > WAITS / 10);
 }
 
 /*
@@ -413,7 +367,6 @@ static void test_waits(void)
 static void test_many_turns(unsigned turns)
 {
 	struct planned wait;
-	alone = true;
 	for (enum call which = DESTROY; which < RELEASE;) {
 		plan(&wait);
 		if (wait.call != which || wait.cpu <= INNER || wait.until != INT64_MAX ||
@@ -424,17 +377,16 @@ static void test_many_turns(unsigned turns)
 		EXPECT(wait.turns == turns);
 		which++;
 	}
-	alone = false;
 }
 
 static void take(void)
 {
-	interlocks[0].take(interlocks[0].of);
+	interlock.take(interlock.of);
 }
 
 static void give(void)
 {
-	interlocks[0].give(interlocks[0].of);
+	interlock.give(interlock.of);
 }
 
 /*

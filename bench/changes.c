@@ -28,16 +28,20 @@ static struct kupaldiz_name names[KUPALDIZ_MOST_SLOTS];
  */
 static const struct kupaldiz_name *changing;
 
-/* The nanoseconds that all attaches, all detaches and all turns that freed a slot took. */
-struct replaced {
-	double attach, detach, freed;
-};
-
 static double now(void)
 {
 	struct timespec time;
 	clock_gettime(CLOCK_MONOTONIC, &time);
 	return (double)time.tv_sec * 1e9 + (double)time.tv_nsec;
+}
+
+/* The nanoseconds that it takes, so many times. */
+static double timed(void (*once)(unsigned), unsigned count)
+{
+	const double began = now();
+	for (unsigned made = 0; made < count; made++)
+		once(made);
+	return now() - began;
 }
 
 static uint64_t attach(const struct kupaldiz_name *name, uint64_t value)
@@ -80,181 +84,145 @@ static void open_registry(void)
 		attach(&names[place], place);
 }
 
-static void attach_each(void)
+/* The numbers of the retired entries, each in its place. */
+static uint64_t numbers[KUPALDIZ_MOST_SLOTS];
+
+static void attach_one(unsigned place)
 {
-	for (unsigned i = 0; i < changing_count; i++)
-		attach(&changing[i], i);
+	attach(&changing[place], place);
 }
 
-static void detach_each(uint64_t *numbers)
+static void detach_one(unsigned place)
 {
-	for (unsigned i = 0; i < changing_count; i++)
-		numbers[i] = detach(&changing[i]);
+	numbers[place] = detach(&changing[place]);
 }
 
-static void free_each(const uint64_t *numbers)
+static void free_one(unsigned place)
 {
-	for (unsigned i = 0; i < changing_count; i++)
-		turn(numbers[i], KUPALDIZ_FREED);
+	turn(numbers[place], KUPALDIZ_FREED);
 }
 
-/* Gives all slots that are left and frees them, so many times. */
-static struct replaced replace_all(unsigned count)
+/* Gives all slots that are left and frees them, so many times. What each of the three takes. */
+static void replace_all(unsigned count)
 {
-	struct replaced replaced = {0};
-	uint64_t numbers[KUPALDIZ_MOST_SLOTS];
+	double attached = 0, detached = 0, freed = 0, many = (double)count * changing_count;
 	for (unsigned made = 0; made < count; made++) {
-		double began = now();
-		attach_each();
-		double attached = now();
-		detach_each(numbers);
-		double detached = now();
-		free_each(numbers);
-		replaced.attach += attached - began;
-		replaced.detach += detached - attached;
-		replaced.freed += now() - detached;
+		attached += timed(attach_one, changing_count);
+		detached += timed(detach_one, changing_count);
+		freed += timed(free_one, changing_count);
 	}
-	return replaced;
+	printf("changes %u attach %.1f detach %.1f freed %.1f", count, attached / many,
+	    detached / many, freed / many);
 }
 
-/* Replaces an entry in its place and frees the old one, so many times. The nanoseconds of it all. */
-static double exchange_all(unsigned count)
+/* Replaces an entry in its place and frees the old one. */
+static void exchange(unsigned made)
 {
-	attach(&changing[0], 0);
-	double began = now();
-	for (unsigned made = 0; made < count; made++) {
-		struct kupaldiz_entry gone;
-		DONE_UNDER(&interlock,
-		    kupaldiz_replace(&keeper, &cpus[0], &changing[0], made, &gone, NULL));
-		turn(gone.number, KUPALDIZ_FREED);
-	}
-	double took = now() - began;
-	turn(detach(&changing[0]), KUPALDIZ_FREED);
-	return took;
+	struct kupaldiz_entry gone;
+	DONE_UNDER(&interlock,
+	    kupaldiz_replace(&keeper, &cpus[0], &changing[0], made, &gone, NULL));
+	turn(gone.number, KUPALDIZ_FREED);
 }
 
-/* The nanoseconds that so many turns take. Each of them meets this. */
-static double turn_all(uint64_t number, enum kupaldiz_stage stage, unsigned count)
+static void meet_grace(unsigned made)
 {
-	double began = now();
-	for (unsigned made = 0; made < count; made++)
-		turn(number, stage);
-	return now() - began;
+	(void)made;
+	turn(numbers[0], KUPALDIZ_GRACE);
+}
+
+static void meet_local(unsigned made)
+{
+	(void)made;
+	turn(numbers[0], KUPALDIZ_LOCAL);
 }
 
 /*
  * Turns on an entry that a section of the other CPU holds, and then on the same while a local
  * reference does.
  */
-static void meet_all(unsigned count, double *grace, double *local)
+static void meet_all(unsigned count)
 {
 	struct kupaldiz_local reference = {0};
-	uint64_t number = attach(&changing[0], 0);
+	attach_one(0);
 	DONE(kupaldiz_enter(&cpus[1]));
 	DONE(kupaldiz_get_local(&cpus[1], KUPALDIZ_ENTRY, &changing[0], &reference));
-	EXPECT(detach(&changing[0]) == number);
-	*grace = turn_all(number, KUPALDIZ_GRACE, count);
+	detach_one(0);
+	printf(" grace %.1f", timed(meet_grace, count) / count);
 	DONE(kupaldiz_exit(&cpus[1]));
-	*local = turn_all(number, KUPALDIZ_LOCAL, count);
+	printf(" local %.1f", timed(meet_local, count) / count);
 	IS(COLLECTED, kupaldiz_try_release_local(&cpus[1], &reference));
 	DONE_UNDER(&interlock, kupaldiz_release_local_locked(&keeper, &cpus[1], &reference));
-	turn(number, KUPALDIZ_FREED);
+	free_one(0);
 }
 
-/* One wait, which nobody prolongs. */
-static void perform(void)
+/* A wait that nobody prolongs. */
+static void perform(unsigned made)
 {
 	struct kupaldiz_wait wait;
 	uint64_t waited;
+	(void)made;
 	DONE_UNDER(&interlock, kupaldiz_perform_begin(&keeper, &cpus[0], &wait));
 	DONE_UNDER(&interlock, kupaldiz_perform_turn(&keeper, &cpus[0], &wait, &waited));
 }
 
-static double perform_all(unsigned count)
-{
-	double began = now();
-	for (unsigned made = 0; made < count; made++)
-		perform();
-	return now() - began;
-}
-
-static double audit_all(unsigned count)
+static void audit(unsigned made)
 {
 	static struct kupaldiz_balance list[KUPALDIZ_MOST_SLOTS];
 	size_t length;
-	double began = now();
-	for (unsigned made = 0; made < count; made++) {
-		DONE_UNDER(&interlock,
-		    kupaldiz_audit(&keeper, cpus, cpu_count, list, slots, &length));
-		EXPECT(length == staying);
-	}
-	return now() - began;
+	(void)made;
+	DONE_UNDER(&interlock, kupaldiz_audit(&keeper, cpus, cpu_count, list, slots, &length));
+	EXPECT(length == staying);
 }
 
-static double look_up_all(unsigned count)
+static void look_up(unsigned made)
 {
-	double began = now();
-	for (unsigned made = 0; made < count; made++)
-		DONE(kupaldiz_look_up(&cpus[0], KUPALDIZ_ENTRY, &names[made % staying], NULL));
-	return now() - began;
+	DONE(kupaldiz_look_up(&cpus[0], KUPALDIZ_ENTRY, &names[made % staying], NULL));
 }
 
-static double walk_all(unsigned count)
+static void walk(unsigned made)
 {
 	struct kupaldiz_entry row[KUPALDIZ_MOST_SLOTS];
 	size_t met;
-	double began = now();
-	for (unsigned made = 0; made < count; made++) {
-		DONE(kupaldiz_enter(&cpus[0]));
-		DONE(kupaldiz_walk(&cpus[0], row, slots, &met));
-		DONE(kupaldiz_exit(&cpus[0]));
-		EXPECT(met == staying);
-	}
-	return now() - began;
+	(void)made;
+	DONE(kupaldiz_enter(&cpus[0]));
+	DONE(kupaldiz_walk(&cpus[0], row, slots, &met));
+	DONE(kupaldiz_exit(&cpus[0]));
+	EXPECT(met == staying);
 }
 
-/* Openings, each with its closing; and the bytes of the heap that the last one took. */
-static double open_all(unsigned count, size_t *bytes)
+static void open_once(unsigned made)
 {
-	size_t before = mallinfo2().uordblks;
+	(void)made;
 	open_empty();
-	*bytes = mallinfo2().uordblks - before;
 	DONE(kupaldiz_close(&keeper, cpus, cpu_count));
-	double began = now();
-	for (unsigned made = 0; made < count; made++) {
-		open_empty();
-		DONE(kupaldiz_close(&keeper, cpus, cpu_count));
-	}
-	return now() - began;
 }
 
-/* What more is told of a registry of a size that was asked for. */
+/* What more is told of a registry of a size that was asked for: also the bytes of its heap. */
 static void tell_size(unsigned count)
 {
-	size_t bytes;
-	printf(" look_up %.1f walk %.1f", look_up_all(count) / count, walk_all(count) / count);
+	printf(" look_up %.1f", timed(look_up, count) / count);
+	printf(" walk %.1f", timed(walk, count) / count);
 	DONE(kupaldiz_close(&keeper, cpus, cpu_count));
-	double opened = open_all(count, &bytes) / count;
-	printf(" open %.1f bytes %zu\n", opened, bytes);
+	const size_t before = mallinfo2().uordblks;
+	open_empty();
+	const size_t bytes = mallinfo2().uordblks - before;
+	DONE(kupaldiz_close(&keeper, cpus, cpu_count));
+	printf(" open %.1f bytes %zu", timed(open_once, count) / count, bytes);
 }
 
 static void run(unsigned count, bool is_sized)
 {
-	double grace, local, many = (double)count * changing_count;
 	open_registry();
-	const struct replaced replaced = replace_all(count);
-	const double exchanged = exchange_all(count);
-	meet_all(count, &grace, &local);
-	printf("changes %u attach %.1f detach %.1f freed %.1f", count, replaced.attach / many,
-	    replaced.detach / many, replaced.freed / many);
-	printf(" exchange %.1f", exchanged / count);
-	printf(" grace %.1f local %.1f perform %.1f", grace / count, local / count,
-	    perform_all(count) / count);
-	printf(" audit %.1f", audit_all(count) / count);
-	if (is_sized) {
+	replace_all(count);
+	attach_one(0);
+	printf(" exchange %.1f", timed(exchange, count) / count);
+	detach_one(0);
+	free_one(0);
+	meet_all(count);
+	printf(" perform %.1f", timed(perform, count) / count);
+	printf(" audit %.1f", timed(audit, count) / count);
+	if (is_sized)
 		tell_size(count);
-		return;
-	}
 	puts("");
 	DONE(kupaldiz_close(&keeper, cpus, cpu_count));
 }
