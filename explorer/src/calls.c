@@ -6,16 +6,11 @@
 
 /* ---- A sleep at a raised level: the thread gives the level up, as in the kernel, and has it again when the call ends. ---- */
 
-bool explorer_is_strict(void)
-{
-	return options.strict;
-}
-
 /* What runs on a CPU for another thread, by xcall(9), mustn't sleep. */
 bool explorer_lowers_level(void)
 {
 	struct routine *me = run.current;
-	if (options.strict || me == NULL || me == xcaller || me->visits)
+	if (me == NULL || me == xcaller || me->visits)
 		return false;
 	if (me->calls > 0) {
 		me->lowered = kupaldiz_self->level;

@@ -148,10 +148,6 @@ BODY(schedule_and_sleep_at_splnet)
 	kupaldiz_unbind();
 }
 
-/* A function of xcall(9) with high priority still mustn't sleep. */
-static void sleep_in_call(void *one, void *other) { (void)one; (void)other; pserialize_perform(psz); }
-BODY(call_to_sleep) { xc_wait(xc_unicast(XC_HIGHPRI, sleep_in_call, NULL, NULL, kupaldiz_cpu(1))); }
-
 /* ---- A soft interrupt takes a lock of IPL_NONE. ---- */
 
 HANDLER(lock_softly, mutex_enter(&lock); plain++; mutex_exit(&lock))
@@ -277,7 +273,6 @@ static const struct find finds[] = {
 	{"the same, strictly", "cv_wait: at a raised level", wait_at_splnet, set_flag_on_its_cpu, .strict = true, .finish = end_things},
 	{"a handler while its CPU's thread sleeps", NULL,
 	    schedule_and_sleep_at_splnet, do_nothing_else, .make = establish, .outcomes = {"0", "1"}, .finish = end_things},
-	{"a sleep in a call with high priority", "pserialize_perform: at a raised level", call_to_sleep, do_nothing_else, .finish = end_things},
 	{"a lock of IPL_NONE in a soft interrupt", NULL, schedule, lock_and_add, .make = establish_locker, .finish = end_things},
 	{"the same, strictly", "mutex_enter: in a soft interrupt, and the lock is of IPL_NONE",
 	    schedule, lock_and_add, .make = establish_locker, .strict = true, .finish = end_things},

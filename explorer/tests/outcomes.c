@@ -469,8 +469,7 @@ static struct explorer_found explore(bool whole)
 {
 	struct explorer_found found;
 	/* A real thread may be late by several ticks on a busy machine. */
-	/* The layer on real threads has soft interrupts inside of sections, as the explorer has where it is strict. */
-	const struct explorer_options options = {.quiet = true, .whole = whole, .reliable = true, .strict = prints, .schedules = most_schedules, .finish = finish,
+	const struct explorer_options options = {.quiet = true, .whole = whole, .reliable = true, .schedules = most_schedules, .finish = finish,
 	    .found = &found, .bounded = 1, .preemptions = 1, .random = 1, .racy = racy, .ticks = prints ? 3 : ticks};
 	explorer_run(begin, &options);
 	return found;
