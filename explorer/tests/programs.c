@@ -9,48 +9,16 @@
  * that has too many orders some are tried, by few preemptions and by random priorities: what they come to is among what the reduction comes to.
  */
 #include <stdlib.h>
-#include <sys/atomic.h>
-#include <sys/callout.h>
-#include <sys/condvar.h>
-#include <sys/cpu.h>
-#include <sys/intr.h>
-#include <sys/kmem.h>
-#include <sys/kthread.h>
-#include <sys/localcount.h>
-#include <sys/lwp.h>
-#include <sys/module_hook.h>
-#include <sys/mutex.h>
 #include <sys/once.h>
-#include <sys/percpu.h>
-#include <sys/pool.h>
-#include <sys/pserialize.h>
-#include <sys/psref.h>
-#include <sys/rwlock.h>
-#include <sys/systm.h>
-#include <sys/workqueue.h>
-#include <sys/xcall.h>
-#include <time.h>
 
 #include "compare.h"
+#include "deeds.h"
 
 /* What is seen has a row for each thread, and for the threads of works, of calls, and of soft interrupts on the first three CPUs. */
 enum { MOST = 3, LONGEST = 5, OF_WORK = MOST, OF_CALL, OF_SOFTINT, ROWS_SEEN = OF_SOFTINT + 3, ROOM = 9, FEW = 3 };
 
-static unsigned words[2];	/* by atomic accesses */
-static kmutex_t locks[2], spin;
-static krwlock_t rw;
-static kcondvar_t cv;
-static bool flag, gone, drained;
-static pserialize_t psz;
-static struct psref_class *things;
-static struct psref_target target;
-static struct localcount local;
 static void *softints[3];
-static callout_t callout;
-static percpu_t *percpu;
-static struct workqueue *queue;
 static struct work works[MOST];
-static pool_cache_t cache;
 MODULE_HOOK(hook, unsigned, (void));
 struct hook_t hook;
 
@@ -63,7 +31,6 @@ UNSEEN static void observe(unsigned row, unsigned value)
 		seen[row][count[row]++] = (char)(value == 0 ? '-' : 'a' + (value - 1) % 26);
 }
 
-static unsigned load(unsigned at) { return atomic_load_relaxed(&words[at]); }
 static void store(unsigned at, unsigned value) { atomic_store_relaxed(&words[at], value); }
 
 /* ---- What a thread does. ---- */
@@ -259,23 +226,6 @@ static void load_without_preemption(unsigned thread)
 	kpreempt_enable();
 }
 
-/* Acquires a passive reference where the target isn't gone, and looks at a word while it has it. */
-static void refer(unsigned thread)
-{
-	struct psref psref;
-	int bound = curlwp_bind(), s = pserialize_read_enter();
-	bool found = !atomic_load_acquire(&gone);
-	if (found)
-		psref_acquire(&psref, &target, things);
-	pserialize_read_exit(s);
-	observe(thread, found);
-	if (found) {
-		observe(thread, load(0));
-		psref_release(&psref, &target, things);
-	}
-	curlwp_bindx(bound);
-}
-
 static void destroy(unsigned thread)
 {
 	(void)thread;
@@ -284,20 +234,6 @@ static void destroy(unsigned thread)
 	atomic_store_release(&gone, true);
 	pserialize_perform(psz);
 	psref_target_destroy(&target, things);
-}
-
-/* The same of a local reference. */
-static void count_in(unsigned thread)
-{
-	int s = pserialize_read_enter();
-	bool found = !atomic_load_acquire(&drained);
-	if (found)
-		localcount_acquire(&local);
-	pserialize_read_exit(s);
-	if (found) {
-		observe(thread, load(1));
-		localcount_release(&local, &cv, &locks[1]);
-	}
 }
 
 /* A reference that the thread has from the beginning. */
@@ -314,32 +250,6 @@ static void drain(unsigned thread)
 		localcount_drain(&local, &cv, &locks[1]);
 	}
 	mutex_exit(&locks[1]);
-}
-
-static void await_flag(unsigned thread)
-{
-	(void)thread;
-	mutex_enter(&locks[0]);
-	while (!flag)
-		cv_wait(&cv, &locks[0]);
-	mutex_exit(&locks[0]);
-}
-
-static void set_flag(unsigned thread)
-{
-	(void)thread;
-	mutex_enter(&locks[0]);
-	flag = true;
-	cv_broadcast(&cv);
-	mutex_exit(&locks[0]);
-}
-
-static void await_flag_for_a_tick(unsigned thread)
-{
-	mutex_enter(&locks[0]);
-	if (!flag)
-		observe(thread, cv_timedwait(&cv, &locks[0], 1) == 0 ? 1 : 2);
-	mutex_exit(&locks[0]);
 }
 
 static void wake_one(unsigned thread) { (void)thread; cv_signal(&cv); }
@@ -428,15 +338,6 @@ HANDLER(lock_softly, mutex_enter(&locks[0]); store(0, 23); mutex_exit(&locks[0])
 HANDLER(load_softly, unsigned cpu = cpu_number(); observe(OF_SOFTINT + (cpu < 2 ? cpu : 2), load(0)))
 static void do_work(struct work *done, void *arg) { (void)done; (void)arg; observe(OF_WORK, load(1)); store(0, 21); }
 
-static int make_object(void *arg, void *object, int flags)
-{
-	static unsigned made;
-	(void)arg;
-	(void)flags;
-	*(unsigned *)object = ++made;
-	return 0;
-}
-
 static void make_softints(void)
 {
 	softints[0] = softint_establish(SOFTINT_NET | SOFTINT_MPSAFE, store_softly, NULL);
@@ -470,7 +371,7 @@ static void make_percpu(void) { percpu = percpu_alloc(sizeof(unsigned)); }
 static void end_percpu(void) { percpu_free(percpu, sizeof(unsigned)); }
 static void make_queue(void) { EXPECT(workqueue_create(&queue, "queue", do_work, NULL, PRI_NONE, IPL_NONE, WQ_MPSAFE) == 0); }
 static void end_queue(void) { workqueue_destroy(queue); }
-static void make_cache(void) { cache = pool_cache_init(sizeof(unsigned), 0, 0, 0, "cache", NULL, IPL_NONE, make_object, NULL, NULL); }
+static void make_cache(void) { cache = pool_cache_init(sizeof(unsigned), 0, 0, 0, "cache", NULL, IPL_NONE, number_object, NULL, NULL); }
 static void end_cache(void) { pool_cache_destroy(cache); }
 static void make_hook(void) { }
 static void end_hook(void) { if (hook.hooked) MODULE_HOOK_UNSET(hook); }
@@ -518,14 +419,6 @@ static void finish(void)
 
 /* ---- Random programs. ---- */
 
-static uint64_t seed;
-
-static unsigned pick(unsigned below)
-{
-	seed = seed * 6364136223846793005u + 1442695040888963407u;
-	return (unsigned)(seed >> 33) % below;
-}
-
 static void add(struct text *text, const struct thing *thing)
 {
 	text->of[text->length++] = thing;
@@ -554,19 +447,15 @@ static void make_program(uint64_t of)
 	}
 }
 
-/* Whether the program may have few enough orders: steps of the next thread are put between those of the others. */
 static bool is_short(double most)
 {
-	double orders = 1;
-	unsigned points = 0;
+	unsigned points[MOST];
 	for (unsigned thread = 0; thread < threads; thread++) {
-		unsigned all = 1;
+		points[thread] = 1;
 		for (unsigned at = 0; at < texts[thread].length; at++)
-			all += texts[thread].of[at]->points;
-		for (unsigned own = 1; own <= all; own++)
-			orders = orders * ++points / own;
+			points[thread] += texts[thread].of[at]->points;
 	}
-	return orders < most;
+	return orders_of(points, threads) < most;
 }
 
 static void show_program(uint64_t of)
@@ -610,13 +499,6 @@ static void compare(uint64_t of, bool shows)
 	show_program(of);
 	show_found("whole", &pair.whole);
 	show_found("reduced", &pair.reduced);
-}
-
-static time_t now(void)
-{
-	struct timespec time;
-	clock_gettime(CLOCK_MONOTONIC, &time);
-	return time.tv_sec;
 }
 
 int main(int words_given, char **given)
