@@ -1,7 +1,7 @@
 /*
- * programs - random programs come to the same outcomes, faults and deadlocks with the reduction and without
+ * programs - written and random programs come to the same outcomes, faults and deadlocks with the reduction and without
  *
- *     programs SECONDS [FIRST]     programs with the seeds from FIRST on, for so long
+ *     programs SECONDS [FIRST]     those that are written here, and random ones with the seeds from FIRST on, for so long
  *     programs count COUNT FIRST   so many that were compared to their end
  *     programs seed FIRST          that one alone, with what it comes to
  *
@@ -283,11 +283,48 @@ static void make_and_join(unsigned thread)
 	kthread_join(made);
 }
 
-/* ---- The list of them, and what each needs. ---- */
+/* ---- What threads of written programs alone do. ---- */
+
+/* A user that has seen the teardown doesn't release its reference. */
+static void count_in_unless_gone(unsigned thread)
+{
+	(void)thread;
+	int s = pserialize_read_enter();
+	bool found = !atomic_load_acquire(&drained);
+	if (found)
+		localcount_acquire(&local);
+	pserialize_read_exit(s);
+	if (found && !atomic_load_relaxed(&gone))
+		localcount_release(&local, &cv, &locks[1]);
+}
+
+static void tear_down(unsigned thread, void (*wait)(unsigned thread))
+{
+	mutex_enter(&locks[1]);
+	atomic_store_release(&drained, true);
+	wait(thread);
+	atomic_store_relaxed(&gone, true);
+	localcount_drain(&local, &cv, &locks[1]);
+	mutex_exit(&locks[1]);
+}
+
+static void tear_down_by_perform(unsigned thread) { tear_down(thread, perform); }
+static void tear_down_by_barrier(unsigned thread) { tear_down(thread, barrier); }
+static void acquire_local(unsigned thread) { (void)thread; localcount_acquire(&local); }
+static void release_any(unsigned thread) { (void)thread; localcount_release(&local, &cv, &locks[1]); }
+
+/* An object of a cache whose readers the cache's end waits for. */
+static unsigned *object;
+
+static void load_object(unsigned thread) { observe(thread, atomic_load_relaxed(object)); }
+static void destroy_cache(unsigned thread) { (void)thread; pool_cache_destroy(cache); }
+static void fail(unsigned thread) { explorer_point(); panic("thread %u", thread); }
+
+/* ---- The list of all, and what each needs. ---- */
 
 enum {
 	LOCKS = 1, SPIN = 2, RW = 4, CV = 8, PSZ = 16, TARGET = 32, LOCAL = 64, SOFTINTS = 128, CALLOUT = 256, PERCPU = 512, QUEUE = 1024, CACHE = 2048,
-	HOOK = 4096
+	HOOK = 4096, OBJECT = 8192, COUNT = LOCAL | LOCKS | CV | PSZ
 };
 
 struct thing {
@@ -299,7 +336,7 @@ struct thing {
 static const struct thing simple[] = {
     {"load 0", load_0, 1, 0}, {"load 1", load_1, 1, 0}, {"store 0", store_0, 1, 0}, {"store 1", store_1, 1, 0}, {"add 0", add_0, 1, 0},
     {"lock, load", lock_and_load, 3, LOCKS}, {"lock, store", lock_and_store, 3, LOCKS}, {"section", read_section, 3, PSZ}, {"signal", wake_one, 1, CV},
-    {"schedule 0", schedule_0, 3, SOFTINTS}, {"ask one", call_one_alone, 4, 0}, {"count out", count_out, 1, LOCAL | LOCKS | CV | PSZ},
+    {"schedule 0", schedule_0, 3, SOFTINTS}, {"ask one", call_one_alone, 4, 0}, {"count out", count_out, 1, COUNT},
     {"try lock", try_lock, 2, LOCKS}};
 
 static const struct thing things_to_do[] = {
@@ -311,8 +348,8 @@ static const struct thing things_to_do[] = {
     {"enqueue", enqueue, 4, QUEUE}, {"await work", await_work, 2, QUEUE}, {"schedule 0", schedule_0, 3, SOFTINTS},
     {"schedule 1", schedule_1, 6, SOFTINTS | LOCKS},
     {"schedule 2", schedule_2, 3, SOFTINTS}, {"section", read_section, 3, PSZ}, {"section twice", read_section_twice, 4, PSZ}, {"perform", perform, 1, PSZ},
-    {"refer", refer, 6, TARGET | PSZ}, {"destroy", destroy, 5, TARGET | PSZ}, {"count in", count_in, 5, LOCAL | LOCKS | CV | PSZ},
-    {"count out", count_out, 1, LOCAL | LOCKS | CV | PSZ}, {"drain", drain, 7, LOCAL | LOCKS | CV | PSZ}, {"lock both", lock_01, 5, LOCKS},
+    {"refer", refer, 6, TARGET | PSZ}, {"destroy", destroy, 5, TARGET | PSZ}, {"count in", count_in, 5, COUNT},
+    {"count out", count_out, 1, COUNT}, {"drain", drain, 7, COUNT}, {"lock both", lock_01, 5, LOCKS},
     {"lock both back", lock_10, 5, LOCKS}, {"try lock", try_lock, 2, LOCKS}, {"spin, load", spin_and_load, 3, SPIN}, {"spin, store", spin_and_store, 3, SPIN},
     {"reader", read_lock, 3, RW}, {"writer", write_lock, 3, RW}, {"await flag", await_flag, 3, LOCKS | CV}, {"set flag", set_flag, 3, LOCKS | CV},
     {"await a tick", await_flag_for_a_tick, 4, LOCKS | CV}, {"signal", wake_one, 1, CV}, {"pause", pause_once, 2, 0}, {"set callout", set_callout, 5, CALLOUT},
@@ -321,6 +358,11 @@ static const struct thing things_to_do[] = {
     {"raise, wait", raise_and_wait, 5, PSZ}, {"kernel lock", lock_kernel, 5, 0}, {"kernel lock, wait", lock_kernel_and_wait, 6, PSZ},
     {"kernel lock, lock", lock_kernel_and_lock, 8, LOCKS}, {"kernel lock, spin", lock_kernel_and_spin, 7, SPIN}, {"once", run_once, 6, PSZ},
     {"sleep", sleep_for_a_tick, 2, 0}, {"wake up", wake_sleepers, 1, 0}};
+
+static const struct thing only_written[] = {
+    {"count in, unless gone", count_in_unless_gone, 5, COUNT}, {"tear down by perform", tear_down_by_perform, 7, COUNT},
+    {"tear down by barrier", tear_down_by_barrier, 14, COUNT}, {"acquire", acquire_local, 1, COUNT}, {"release any", release_any, 1, COUNT},
+    {"load object", load_object, 1, OBJECT}, {"destroy cache", destroy_cache, 2, OBJECT}, {"fail", fail, 1, 0}};
 
 struct text {
 	int cpu;	/* below 0: the thread isn't bound */
@@ -373,6 +415,15 @@ static void make_queue(void) { EXPECT(workqueue_create(&queue, "queue", do_work,
 static void end_queue(void) { workqueue_destroy(queue); }
 static void make_cache(void) { cache = pool_cache_init(sizeof(unsigned), 0, 0, 0, "cache", NULL, IPL_NONE, number_object, NULL, NULL); }
 static void end_cache(void) { pool_cache_destroy(cache); }
+
+static void make_object(void)
+{
+	cache = pool_cache_init(sizeof(*object), 0, 0, PR_PSERIALIZE, "cache", NULL, IPL_NONE, number_object, NULL, NULL);
+	object = pool_cache_get(cache, PR_WAITOK);
+	pool_cache_put(cache, object);
+}
+
+static void end_object(void) { }
 static void make_hook(void) { }
 static void end_hook(void) { if (hook.hooked) MODULE_HOOK_UNSET(hook); }
 
@@ -381,7 +432,8 @@ static const struct made {
 	void (*make)(void), (*end)(void);
 } all_made[] = {{LOCKS, make_locks, end_locks}, {SPIN, make_spin, end_spin}, {RW, make_rw, end_rw}, {CV, make_cv, end_cv}, {PSZ, make_psz, end_psz},
     {TARGET, make_target, end_target}, {LOCAL, make_local, end_local}, {SOFTINTS, make_softints, end_softints}, {CALLOUT, make_callout, end_callout},
-    {PERCPU, make_percpu, end_percpu}, {QUEUE, make_queue, end_queue}, {CACHE, make_cache, end_cache}, {HOOK, make_hook, end_hook}};
+    {PERCPU, make_percpu, end_percpu}, {QUEUE, make_queue, end_queue}, {CACHE, make_cache, end_cache}, {HOOK, make_hook, end_hook},
+    {OBJECT, make_object, end_object}};
 
 UNSEEN static void run_text(void *arg)
 {
@@ -417,13 +469,64 @@ static void finish(void)
 	explorer_outcome("%u %u", words[0], words[1]);
 }
 
-/* ---- Random programs. ---- */
-
 static void add(struct text *text, const struct thing *thing)
 {
 	text->of[text->length++] = thing;
 	needs |= thing->needs;
 }
+
+/* ---- Written programs, of which an earlier reduction left schedules out. Each comes to more than one end. ---- */
+
+static const struct written {
+	int cpu;	/* as in a text */
+	void (*does[3])(unsigned thread);
+} written[][MOST] = {
+    /* An unbound thread's release takes its CPU and gives it back in one step; also in a teardown, which may hang then. */
+    {{-1, {load_0, count_out}}, {0, {read_section, store_0}}},
+    {{-1, {load_0, count_out}}, {0, {refer, store_0}}},
+    {{-1, {count_in_unless_gone}}, {-1, {tear_down_by_barrier}}},
+    {{-1, {count_in_unless_gone}}, {-1, {tear_down_by_perform}}},
+    /* Of two calls the second is asked for before the first has begun. */
+    {{-1, {call_all}}, {-1, {load_0, call_nobody}}},
+    {{-1, {load_0, call_one_for_nothing}}, {-1, {call_one}}},
+    /* A thread releases another one's reference, which may come too early. */
+    {{-1, {acquire_local}}, {-1, {release_any}}},
+    {{-1, {acquire_local}}, {-1, {release_any}}, {-1, {acquire_local, release_any}}},
+    /* A call gives back memory inside. */
+    {{-1, {load_object}}, {-1, {destroy_cache}}},
+    /* Two threads that touch nothing: neither one's fault hides the other's. */
+    {{-1, {fail}}, {-1, {fail}}},
+};
+
+static const struct thing *thing_with(void (*body)(unsigned thread), const struct thing *from, size_t all)
+{
+	size_t at = 0;
+	while (at < all && from[at].body != body)
+		at++;
+	return at < all ? &from[at] : NULL;
+}
+
+#define ROWS(table)	(table), sizeof(table) / sizeof((table)[0])
+
+static void add_body(struct text *text, void (*body)(unsigned thread))
+{
+	const struct thing *found = thing_with(body, ROWS(only_written));
+	found = found != NULL ? found : thing_with(body, ROWS(simple));
+	add(text, found != NULL ? found : thing_with(body, ROWS(things_to_do)));
+}
+
+static void write_program(const struct written *program)
+{
+	ticks = 1;
+	needs = 0;
+	for (threads = 0; threads < MOST && program[threads].does[0] != NULL; threads++) {
+		texts[threads] = (struct text){.cpu = program[threads].cpu};
+		for (unsigned at = 0; at < 3 && program[threads].does[at] != NULL; at++)
+			add_body(&texts[threads], program[threads].does[at]);
+	}
+}
+
+/* ---- Random programs. ---- */
 
 static void add_simple(struct text *text, unsigned most)
 {
@@ -480,6 +583,25 @@ static struct explorer_found sample(uint64_t of)
 	return search_by(begin, (struct explorer_options){.schedules = 1, .bounded = 100, .random = 100, .seed = of + 1, .ticks = ticks, .finish = finish});
 }
 
+static void show_pair(uint64_t of, const struct pair *pair)
+{
+	show_program(of);
+	show_found("whole", &pair->whole);
+	show_found("reduced", &pair->reduced);
+}
+
+static void compare_written(void)
+{
+	for (unsigned row = 0; row < sizeof(written) / sizeof(written[0]); row++) {
+		write_program(written[row]);
+		const struct pair pair = {search_for(begin, finish, 10000, ticks, true), search_for(begin, finish, 10000, ticks, false)};
+		if (do_agree(&pair) && are_through(&pair) && pair.whole.outcomes > 1)
+			continue;
+		wrong++;
+		show_pair(row, &pair);
+	}
+}
+
 static void compare(uint64_t of, bool shows)
 {
 	bool is_long = !is_short(1.5 * SCHEDULES);
@@ -494,11 +616,8 @@ static void compare(uint64_t of, bool shows)
 			faulty++;
 			break;
 		}
-	if (agree && !shows)
-		return;
-	show_program(of);
-	show_found("whole", &pair.whole);
-	show_found("reduced", &pair.reduced);
+	if (!agree || shows)
+		show_pair(of, &pair);
 }
 
 int main(int words_given, char **given)
@@ -512,6 +631,7 @@ int main(int words_given, char **given)
 		compare(first, true);
 		return wrong != 0;
 	}
+	compare_written();
 	for (; counts ? compared < most : now() < end; first++) {
 		make_program(first);
 		if (is_short(1.5 * SCHEDULES) || (!counts && first % LONG_IN == 0))
