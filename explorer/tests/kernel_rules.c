@@ -18,7 +18,7 @@
 
 #include "finds.h"
 
-static kmutex_t lock;
+static kmutex_t lock, spin;
 static kcondvar_t cv;
 static pserialize_t psz;
 static struct psref_class *things;
@@ -32,6 +32,7 @@ struct hook_t hook;
 static void make_things(void)
 {
 	mutex_init(&lock, MUTEX_DEFAULT, IPL_NONE);
+	mutex_init(&spin, MUTEX_DEFAULT, IPL_VM);
 	cv_init(&cv, "cv");
 	psz = pserialize_create();
 	things = psref_class_create("thing", IPL_SOFTNET);
@@ -110,29 +111,35 @@ BODY(detach_at_splnet)
 	kupaldiz_unbind();
 }
 
-BODY(wait_at_splnet)
+static void wait_for_flag(kmutex_t *with)
 {
 	kupaldiz_bind(0);
 	int s = splnet();
-	mutex_enter(&lock);
+	mutex_enter(with);
 	while (!flag)
-		cv_wait(&cv, &lock);
-	mutex_exit(&lock);
+		cv_wait(&cv, with);
+	mutex_exit(with);
+	KASSERT(kpreempt_disabled());
 	splx(s);
 	kupaldiz_unbind();
 }
 
-BODY(set_flag_on_its_cpu)
+static void set_flag(kmutex_t *with)
 {
 	kupaldiz_bind(0);
 	int s = splnet();
 	splx(s);
-	mutex_enter(&lock);
+	mutex_enter(with);
 	flag = true;
 	cv_broadcast(&cv);
-	mutex_exit(&lock);
+	mutex_exit(with);
 	kupaldiz_unbind();
 }
+
+BODY(wait_at_splnet) { wait_for_flag(&lock); }
+BODY(set_flag_on_its_cpu) { set_flag(&lock); }
+BODY(wait_with_spin_lock) { wait_for_flag(&spin); }
+BODY(set_flag_with_spin_lock) { set_flag(&spin); }
 
 BODY(do_nothing_else) { explorer_point(); }
 
@@ -259,6 +266,7 @@ static void end_things(void)
 	pserialize_destroy(psz);
 	cv_destroy(&cv);
 	mutex_destroy(&lock);
+	mutex_destroy(&spin);
 }
 
 static const struct find finds[] = {
@@ -271,6 +279,7 @@ static const struct find finds[] = {
 	    detach_at_splnet, use_target, .make = establish, .strict = true, .finish = end_things},
 	{"a wait at splnet", NULL, wait_at_splnet, set_flag_on_its_cpu, .finish = end_things},
 	{"the same, strictly", "cv_wait: at a raised level", wait_at_splnet, set_flag_on_its_cpu, .strict = true, .finish = end_things},
+	{"a wait at splnet with a spin lock", NULL, wait_with_spin_lock, set_flag_with_spin_lock, .finish = end_things},
 	{"a handler while its CPU's thread sleeps", NULL,
 	    schedule_and_sleep_at_splnet, do_nothing_else, .make = establish, .outcomes = {"0", "1"}, .finish = end_things},
 	{"a lock of IPL_NONE in a soft interrupt", NULL, schedule, lock_and_add, .make = establish_locker, .finish = end_things},

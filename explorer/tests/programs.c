@@ -187,6 +187,23 @@ static void raise_and_wait(unsigned thread)
 	splx(s);
 }
 
+static void raise_and_lock(unsigned thread)
+{
+	int s = splnet();
+	lock_and_load(thread);
+	observe(thread, load(1));
+	splx(s);
+}
+
+static void raise_and_await_a_tick(unsigned thread)
+{
+	int s = splnet();
+	mutex_enter(&spin);
+	observe(thread, cv_timedwait(&cv, &spin, 1) == 0 ? 1 : 2);
+	mutex_exit(&spin);
+	splx(s);
+}
+
 static void kernel_lock_around(unsigned thread, void (*body)(unsigned thread))
 {
 	KERNEL_LOCK(1, NULL);
@@ -355,7 +372,8 @@ static const struct thing things_to_do[] = {
     {"await a tick", await_flag_for_a_tick, 4, LOCKS | CV}, {"signal", wake_one, 1, CV}, {"pause", pause_once, 2, 0}, {"set callout", set_callout, 5, CALLOUT},
     {"halt callout", halt_callout, 1, CALLOUT}, {"stop callout", stop_callout, 1, CALLOUT}, {"raise, store", raise_and_store, 3, 0},
     {"no preemption, load", load_without_preemption, 3, 0}, {"find CPU", find_cpu, 1, 0}, {"cache", use_cache, 3, CACHE}, {"thread", make_and_join, 4, 0},
-    {"raise, wait", raise_and_wait, 5, PSZ}, {"kernel lock", lock_kernel, 5, 0}, {"kernel lock, wait", lock_kernel_and_wait, 6, PSZ},
+    {"raise, wait", raise_and_wait, 5, PSZ}, {"raise, lock", raise_and_lock, 6, LOCKS}, {"raise, await a tick", raise_and_await_a_tick, 7, SPIN | CV},
+    {"kernel lock", lock_kernel, 5, 0}, {"kernel lock, wait", lock_kernel_and_wait, 6, PSZ},
     {"kernel lock, lock", lock_kernel_and_lock, 8, LOCKS}, {"kernel lock, spin", lock_kernel_and_spin, 7, SPIN}, {"once", run_once, 6, PSZ},
     {"sleep", sleep_for_a_tick, 2, 0}, {"wake up", wake_sleepers, 1, 0}};
 

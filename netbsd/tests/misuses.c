@@ -338,9 +338,13 @@ STOPS("cv_destroy: a thread waits for count, at PLACE", start(wait_for_it); mute
 #define MORE	"cv_timedwait: the thread has more than this spin lock, at PLACE"
 STOPS(MORE, mutex_enter(&spin); pserialize_read_enter(); cv_timedwait(&cv, &spin, 1))
 STOPS(MORE, mutex_enter(&other_spin); mutex_enter(&spin); cv_timedwait(&cv, &spin, 1))
-STOPS(MORE, splsoftnet(); mutex_enter(&spin); cv_timedwait(&cv, &spin, 1))
+STOPS(MORE, kupaldiz_set_strict(true); splsoftnet(); mutex_enter(&spin); cv_timedwait(&cv, &spin, 1))
 STOPS(MORE, kpreempt_disable(); mutex_enter(&spin); cv_timedwait(&cv, &spin, 1))
 HANDLER(wait_spinning, mutex_enter(&spin); cv_timedwait(&cv, &spin, 1))
+STOPS(MORE, broadcast(XC_HIGHPRI, wait_spinning))
+STOPS("panic: the wait at a level ended, at PLACE",
+    int s = splsoftnet(); mutex_enter(&spin); cv_timedwait(&cv, &spin, 1); mutex_exit(&spin); EXPECT(splsoftclock() == IPL_SOFTNET); splx(s);
+    panic("the wait at a level ended"))
 STOPS("cv_timedwait: in a soft interrupt, at PLACE", as_softint(wait_spinning))
 STOPS("cv_timedwait: at a raised level, at PLACE", mutex_enter(&spin); splhigh(); cv_timedwait(&cv, &spin, 1))
 STOPS("cv_timedwait: at a raised level, at PLACE", mutex_enter(&softspin); splsoftserial(); cv_timedwait(&cv, &softspin, 1))

@@ -279,6 +279,24 @@ static void test_sleep_in_call(void)
 	perform_raised();
 }
 
+static void do_work(struct work *work, void *arg) { EXPECT(work != NULL); atomic_fetch_add((atomic_uint *)arg, 1); }
+
+/* The queue's own lock spins, at the level of a device. */
+static void test_works_at_level(void)
+{
+	struct workqueue *queue;
+	struct work work;
+	atomic_uint done = 0;
+	int s = splnet();
+	EXPECT(workqueue_create(&queue, "queue", do_work, &done, PRI_NONE, IPL_VM, WQ_MPSAFE) == 0);
+	workqueue_enqueue(queue, &work, NULL);
+	workqueue_wait(queue, &work);
+	EXPECT(atomic_load(&done) == 1 && kpreempt_disabled());
+	workqueue_destroy(queue);
+	EXPECT(splnet() == IPL_NET);
+	splx(s);
+}
+
 /* A handler takes a lock of IPL_NONE. */
 static void test_lock_of_none(void)
 {
@@ -381,6 +399,7 @@ int main(void)
 	test_raised();
 	test_sleep_at_level();
 	test_sleep_in_call();
+	test_works_at_level();
 	test_section(false);
 	test_section(true);
 	test_runs(true);
