@@ -6,37 +6,35 @@
 
 /* ---- A sleep at a raised level: the thread gives the level up, as in the kernel, and has it again when the call ends. ---- */
 
-/* What runs on a CPU for another thread, by xcall(9), mustn't sleep. */
-bool explorer_lowers_level(void)
+void explorer_may_sleep(void)
 {
-	struct routine *me = run.current;
-	if (me == NULL || me == xcaller || me->visits)
-		return false;
-	if (me->calls > 0) {
-		me->lowered = kupaldiz_self->level;
-		lower_level(kupaldiz_self, IPL_NONE);
-	}
-	return true;
+	struct in_call *call = run.current == NULL ? NULL : run.current->in_call;
+	if (call == NULL || kupaldiz_self->level == IPL_NONE)
+		return;
+	call->lowered = kupaldiz_self->level;
+	lower_level(kupaldiz_self, IPL_NONE);
 }
 
-struct routine *begin_of_call(void)
+void begin_of_call(struct in_call *call)
 {
-	if (run.current != NULL)
-		run.current->calls++;
-	return run.current;
+	struct routine *me = run.current;
+	*call = (struct in_call){.me = me, .around = me == NULL ? NULL : me->in_call, .lowered = IPL_NONE};
+	if (me != NULL)
+		me->in_call = call;
 }
 
 /* Others may have had the CPU, also where the call didn't wait. */
-void end_of_call(struct routine **in_call)
+void end_of_call(struct in_call *call)
 {
-	struct routine *me = *in_call;
-	if (me == NULL || --me->calls > 0 || me->lowered == IPL_NONE)
+	if (call->me == NULL)
+		return;
+	call->me->in_call = call->around;
+	if (call->lowered == IPL_NONE)
 		return;
 	struct thread *self = kupaldiz_self;
 	wait_here(is_free, &self->cpu->hold);
 	touch(ON_LOCK, &self->cpu->hold, 0, WAITED);
-	raise_level(self, me->lowered);
-	me->lowered = IPL_NONE;
+	raise_level(self, call->lowered);
 }
 
 void at_call(const char *call)

@@ -74,6 +74,13 @@ static inline void join(uint32_t *clock, const uint32_t *other)
 			clock[number] = other[number];
 }
 
+/* A call of the explorer's that a thread is in: the one around it, and the level that it has given up. */
+struct in_call {
+	struct routine *me;
+	struct in_call *around;
+	int lowered;
+};
+
 struct routine {
 	void *stack;		/* where it was left */
 	void *fake_stack;
@@ -89,8 +96,7 @@ struct routine {
 	struct thread *self;
 	struct places places;
 	const char *from;	/* the place of the next point that lies in a header */
-	unsigned calls;		/* of the explorer's that it is in */
-	int lowered;		/* the level that one of them has given up */
+	struct in_call *in_call;	/* the innermost of the explorer's that it is in */
 	const char *call, *place;	/* the point where it is */
 	const void *pc;		/* of it, where the compiler's call has made it: no text says the place */
 	const volatile void *announced;	/* the atomic access that comes next and has had its point; the thread itself for a barrier */
@@ -290,7 +296,9 @@ extern struct scratch *scratch;
 #define LAYER(type, name, parameters)	type layer_##name parameters
 
 /* IN_CALL - the block is a call of the explorer's: at its end the level is raised again that the call has given up to sleep. */
-#define IN_CALL	struct routine *in_call __attribute__((unused, cleanup(end_of_call))) = begin_of_call()
+#define IN_CALL \
+	struct in_call in_call __attribute__((cleanup(end_of_call))); \
+	begin_of_call(&in_call)
 
 /* WRAPPED - a call that begins with its point and what it touches, and then is the layer's own. Both return nothing where the type is void. */
 #define WRAPPED(type, name, parameters, arguments, ...) \
@@ -349,8 +357,8 @@ struct routine *here(const char *call);
 bool is_enabled(const struct routine *routine);
 bool all_have_ended(const struct routine *routine);
 uint32_t enabled_now(void);
-struct routine *begin_of_call(void);
-void end_of_call(struct routine **in_call);
+void begin_of_call(struct in_call *call);
+void end_of_call(struct in_call *call);
 void at_call(const char *call);
 void at_thing(const char *call, enum kind kind, const void *thing, size_t size, unsigned how);
 void at_live(const char *call, const void *thing, size_t size);

@@ -155,6 +155,26 @@ BODY(schedule_and_sleep_at_splnet)
 	kupaldiz_unbind();
 }
 
+static void perform_raised(void)
+{
+	int s = splnet();
+	pserialize_perform(psz);
+	KASSERT(kpreempt_disabled());
+	splx(s);
+}
+
+static void sleep_in_call(void *one, void *other) { (void)one; (void)other; perform_raised(); }
+static void sleep_at_part(void *own, void *arg, struct cpu_info *cpu) { (void)own; (void)arg; (void)cpu; perform_raised(); }
+
+/* A function of xcall(9) may do so, too, unless it has high priority. */
+BODY(call_to_sleep)
+{
+	percpu_t *percpu = percpu_alloc(sizeof(int));
+	xc_wait(xc_unicast(0, sleep_in_call, NULL, NULL, kupaldiz_cpu(1)));
+	percpu_foreach_xcall(percpu, 0, sleep_at_part, NULL);
+	percpu_free(percpu, sizeof(int));
+}
+
 /* ---- A soft interrupt takes a lock of IPL_NONE. ---- */
 
 HANDLER(lock_softly, mutex_enter(&lock); plain++; mutex_exit(&lock))
@@ -282,6 +302,7 @@ static const struct find finds[] = {
 	{"a wait at splnet with a spin lock", NULL, wait_with_spin_lock, set_flag_with_spin_lock, .finish = end_things},
 	{"a handler while its CPU's thread sleeps", NULL,
 	    schedule_and_sleep_at_splnet, do_nothing_else, .make = establish, .outcomes = {"0", "1"}, .finish = end_things},
+	{"functions of xcall(9) that sleep at a raised level", NULL, call_to_sleep, do_nothing_else, .finish = end_things},
 	{"a lock of IPL_NONE in a soft interrupt", NULL, schedule, lock_and_add, .make = establish_locker, .finish = end_things},
 	{"the same, strictly", "mutex_enter: in a soft interrupt, and the lock is of IPL_NONE",
 	    schedule, lock_and_add, .make = establish_locker, .strict = true, .finish = end_things},

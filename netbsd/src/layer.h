@@ -81,10 +81,11 @@ void __asan_unpoison_memory_region(const volatile void *at, size_t size);
 /* How a wait for a condition variable ends: early if nobody ended it. */
 enum ending { IN_TIME, AS_IF_WOKEN, BY_SIGNAL };
 
-/* What the explorer alone decides: whether a call that may fail does so, and whether the code's next wait, which may be one that signals end, ends early; how
- * the last one has ended. It is told of a work that isn't in its queue any more. */
+/* What the explorer alone decides: that a call which may sleep gives a raised level up until its end, also where it needn't wait; whether a call that may fail does
+ * so, and whether the code's next wait, which may be one that signals end, ends early; how the last one has ended. It is told of a work that isn't in its
+ * queue any more. */
 #ifndef FAILS
-#define MAY_LOWER(me)		(!(me)->called)	/* whether a call that may sleep gives a raised level up until its end */
+#define MAY_SLEEP()		((void)0)
 #define FAILS()			false
 #define MAY_END_EARLY(signals)	((void)(signals))
 #define LAST_ENDING()		IN_TIME
