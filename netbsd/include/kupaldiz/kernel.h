@@ -75,6 +75,9 @@ void delay(unsigned microseconds);
  * interruptible, and it returns EINTR. Stops where the thread mustn't sleep. */
 int kpause(const char *name, bool interruptible, int ticks, kmutex_t *mutex);
 
+/* The priorities of tsleep(9), which change nothing. PRI_NONE is none of them: it has the bits of the next two. */
+enum { PVM = 4, PRIBIO = 16, PZERO = 22, PSOCK = 24, PWAIT = 32 };
+
 /* PCATCH, PNORELOCK - of a priority: a signal may end the sleep, as in the explorer; the lock isn't taken again. */
 #define PCATCH		0x100
 #define PNORELOCK	0x200
