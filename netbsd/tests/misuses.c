@@ -148,6 +148,10 @@ STOPS(beyond, kupaldiz_unbind(); kupaldiz_bind(KUPALDIZ_CPUS))
 STOPS("kupaldiz_bind: inside a read section, entered at PLACE, at PLACE", kupaldiz_unbind(); pserialize_read_enter(); kupaldiz_bind(1))
 STOPS("kupaldiz_unbind: inside a read section, entered at PLACE, at PLACE", pserialize_read_enter(); kupaldiz_unbind())
 STOPS("curlwp_bindx: the thread has passive references, at PLACE", acquire(); curlwp_bindx(0))
+/* A raised level is then the other CPU's. */
+STOPS("panic: it is bound, at PLACE",
+    int s = splnet(); kupaldiz_unbind(); kupaldiz_bind(1); EXPECT(cpu_number() == 1 && kpreempt_disabled()); splx(s); EXPECT(!kpreempt_disabled());
+    panic("it is bound"))
 
 /* ---- What threads, handlers and functions leave behind. ---- */
 
