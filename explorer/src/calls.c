@@ -83,7 +83,7 @@ void track_ended(const void *thing)
 }
 
 /* A target or a count: the layer knows whether it was ended. */
-void track_owner(const char *call, const void *owner)
+static void track_owner(const char *call, const void *owner)
 {
 	struct thing *row = row_for(THINGS, (uintptr_t)owner);
 	row->made = (struct origin){call, run.current->place, NULL};
@@ -124,7 +124,7 @@ WRAPPED(void, mutex_init, (kmutex_t *mutex, kmutex_type_t type, int level), (mut
 WRAPPED(void, cv_init, (kcondvar_t *cv, const char *name), (cv, name), track_made(__func__, cv, __builtin_return_address(0)))
 WRAPPED(void, rw_init, (krwlock_t *rw), (rw), track_made(__func__, rw, __builtin_return_address(0)))
 
-void track_wake(const char *call, const char *place, const void *cv, bool waited)
+static void track_wake(const char *call, const char *place, const void *cv, bool waited)
 {
 	struct thing *row = row_for(THINGS, (uintptr_t)cv);
 	row->missed = waited ? NULL : call;

@@ -354,9 +354,7 @@ void find_races_at_end(void);
 void find_races_of_fault(void);
 void start_routines(void);
 struct routine *here(const char *call);
-bool is_enabled(const struct routine *routine);
 bool all_have_ended(const struct routine *routine);
-uint32_t enabled_now(void);
 void begin_of_call(struct in_call *call);
 void end_of_call(struct in_call *call);
 void at_call(const char *call);
@@ -368,12 +366,10 @@ void note_ending(struct routine *me, bool early);
 void write_failures(char *text, size_t room);
 bool read_failures(const char *text);
 void track_made(const char *call, const void *thing, const void *pc);
-void track_owner(const char *call, const void *owner);
 const char *place_made(const struct thing *thing);
 const struct routine *append_held(char *text, const void *count);
 void check_none_made(const char *call, const void *from, size_t size);
 void check_none_left(void);
-void track_wake(const char *call, const char *place, const void *cv, bool waited);
 const struct thing *lost_wakeup_at(const void *cv);
 void note_enter(const struct thread *self);
 void note_exit(const struct thread *self);
@@ -428,7 +424,6 @@ _Noreturn void refuse(const char *format, ...) __attribute__((format(printf, 1, 
 #define fail_if(condition, ...)		((condition) ? fail(__VA_ARGS__) : (void)0)
 #define refuse_if(condition, ...)	((condition) ? refuse(__VA_ARGS__) : (void)0)
 void write_schedule(char *text, size_t room);
-const char *short_place(const char *place);
 const char *place_of_step(const struct step *step);
 void show(FILE *to, const struct explorer_found *found);
 bool draw(const char *name, const struct explorer_found *found);
