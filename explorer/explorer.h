@@ -76,7 +76,7 @@ struct explorer_options {
 	unsigned left;		/* blocks of memory that may be left at the end */
 	unsigned failures;	/* how many calls may fail, and waits end early, in one run; 1 */
 	bool reliable;		/* none does */
-	bool strict;		/* faults, too: a call that may sleep at a raised level, a lock of IPL_NONE in a soft interrupt; and one runs inside a section */
+	bool strict;		/* begins each run with the stricter rules of kupaldiz_set_strict */
 	bool whole;		/* without the reduction */
 	bool racy;		/* a data race is no fault: each plain access is a point, and what a race decides is tried */
 	bool goes_on;		/* a fault is an outcome, by its line, and the search goes on */

@@ -191,7 +191,7 @@ MAKES_EXPLORER = ["make", "-s", "-C", "explorer", "WARNINGS=-w", BARE]
 # The ways in which the layer's Makefile builds its programs, and whether without sanitizers.
 WAYS = {"plain": True, "wide": False, "sanitized": False, "raced": False}
 # The programs of the explorer that see the layer, with their words.
-EXPLORER = {"counts": [], "drivers": [], "finds": [], "kernel_rules": [], "schedules": [], "callouts": [],
+EXPLORER = {"counts": [], "drivers": [], "finds": [], "kernel_rules": [], "programs": ["0"], "callouts": [],
          "failures": [], "kernel_files": [], "refusals": [], "named": [], "outcomes": ["1", "40"]}
 # The tests of these modules, with their words.
 OVER_WAITING = {"turns": [], "reclaims": [], "lent": [], "deferred": [], "later": [], "late": [], "interrupted": [], "together": ["20"]}

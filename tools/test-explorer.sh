@@ -117,7 +117,7 @@ for way in plain sanitized; do
     check "the explorer and its tests are built, no warning: $way" make -s -C $folder $way
     check "counts of schedules, and verdicts, $way" "$out/$way/counts"
     [ "$way" = plain ] || check "the seven drivers in every order, $way" "$out/$way/drivers"
-    counted "programs of which schedules were left out once, $way" "$out/$way/schedules"
+    check "programs of which schedules were left out once, $way" "$out/$way/programs" 0
     counted "what it finds, data races too, $way" "$out/$way/finds"
     counted "what the kernel allows, and what it refuses, $way" "$out/$way/kernel_rules"
     counted "callouts, $way" "$out/$way/callouts"

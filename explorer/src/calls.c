@@ -6,42 +6,35 @@
 
 /* ---- A sleep at a raised level: the thread gives the level up, as in the kernel, and has it again when the call ends. ---- */
 
-bool explorer_is_strict(void)
+void explorer_may_sleep(void)
 {
-	return options.strict;
+	struct in_call *call = run.current == NULL ? NULL : run.current->in_call;
+	if (call == NULL || kupaldiz_self->level == IPL_NONE)
+		return;
+	call->lowered = kupaldiz_self->level;
+	lower_level(kupaldiz_self, IPL_NONE);
 }
 
-/* What runs on a CPU for another thread, by xcall(9), mustn't sleep. */
-bool explorer_lowers_level(void)
+void begin_of_call(struct in_call *call)
 {
 	struct routine *me = run.current;
-	if (options.strict || me == NULL || me == xcaller || me->visits)
-		return false;
-	if (me->calls > 0) {
-		me->lowered = kupaldiz_self->level;
-		lower_level(kupaldiz_self, IPL_NONE);
-	}
-	return true;
-}
-
-struct routine *begin_of_call(void)
-{
-	if (run.current != NULL)
-		run.current->calls++;
-	return run.current;
+	*call = (struct in_call){.me = me, .around = me == NULL ? NULL : me->in_call, .lowered = IPL_NONE};
+	if (me != NULL)
+		me->in_call = call;
 }
 
 /* Others may have had the CPU, also where the call didn't wait. */
-void end_of_call(struct routine **in_call)
+void end_of_call(struct in_call *call)
 {
-	struct routine *me = *in_call;
-	if (me == NULL || --me->calls > 0 || me->lowered == IPL_NONE)
+	if (call->me == NULL)
+		return;
+	call->me->in_call = call->around;
+	if (call->lowered == IPL_NONE)
 		return;
 	struct thread *self = kupaldiz_self;
 	wait_here(is_free, &self->cpu->hold);
 	touch(ON_LOCK, &self->cpu->hold, 0, WAITED);
-	raise_level(self, me->lowered);
-	me->lowered = IPL_NONE;
+	raise_level(self, call->lowered);
 }
 
 void at_call(const char *call)
@@ -90,7 +83,7 @@ void track_ended(const void *thing)
 }
 
 /* A target or a count: the layer knows whether it was ended. */
-void track_owner(const char *call, const void *owner)
+static void track_owner(const char *call, const void *owner)
 {
 	struct thing *row = row_for(THINGS, (uintptr_t)owner);
 	row->made = (struct origin){call, run.current->place, NULL};
@@ -131,7 +124,7 @@ WRAPPED(void, mutex_init, (kmutex_t *mutex, kmutex_type_t type, int level), (mut
 WRAPPED(void, cv_init, (kcondvar_t *cv, const char *name), (cv, name), track_made(__func__, cv, __builtin_return_address(0)))
 WRAPPED(void, rw_init, (krwlock_t *rw), (rw), track_made(__func__, rw, __builtin_return_address(0)))
 
-void track_wake(const char *call, const char *place, const void *cv, bool waited)
+static void track_wake(const char *call, const char *place, const void *cv, bool waited)
 {
 	struct thing *row = row_for(THINGS, (uintptr_t)cv);
 	row->missed = waited ? NULL : call;

@@ -411,6 +411,7 @@ static void fill_options(const struct explorer_options *given)
 	options.seed = options.seed == 0 ? 1 : options.seed;
 	options.ticks = options.ticks == 0 ? 1 : options.ticks;
 	options.failures = options.failures == 0 ? 1 : options.failures;
+	is_strict = options.strict;
 	options.replay = options.replay == NULL ? replay_by_environment() : options.replay;
 	refuse_if(options.failures > EXPLORER_FAILURES, "at most %d failures in a run", EXPLORER_FAILURES);
 }

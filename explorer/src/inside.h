@@ -74,6 +74,13 @@ static inline void join(uint32_t *clock, const uint32_t *other)
 			clock[number] = other[number];
 }
 
+/* A call of the explorer's that a thread is in: the one around it, and the level that it has given up. */
+struct in_call {
+	struct routine *me;
+	struct in_call *around;
+	int lowered;
+};
+
 struct routine {
 	void *stack;		/* where it was left */
 	void *fake_stack;
@@ -89,8 +96,7 @@ struct routine {
 	struct thread *self;
 	struct places places;
 	const char *from;	/* the place of the next point that lies in a header */
-	unsigned calls;		/* of the explorer's that it is in */
-	int lowered;		/* the level that one of them has given up */
+	struct in_call *in_call;	/* the innermost of the explorer's that it is in */
 	const char *call, *place;	/* the point where it is */
 	const void *pc;		/* of it, where the compiler's call has made it: no text says the place */
 	const volatile void *announced;	/* the atomic access that comes next and has had its point; the thread itself for a barrier */
@@ -290,7 +296,9 @@ extern struct scratch *scratch;
 #define LAYER(type, name, parameters)	type layer_##name parameters
 
 /* IN_CALL - the block is a call of the explorer's: at its end the level is raised again that the call has given up to sleep. */
-#define IN_CALL	struct routine *in_call __attribute__((unused, cleanup(end_of_call))) = begin_of_call()
+#define IN_CALL \
+	struct in_call in_call __attribute__((cleanup(end_of_call))); \
+	begin_of_call(&in_call)
 
 /* WRAPPED - a call that begins with its point and what it touches, and then is the layer's own. Both return nothing where the type is void. */
 #define WRAPPED(type, name, parameters, arguments, ...) \
@@ -346,11 +354,9 @@ void find_races_at_end(void);
 void find_races_of_fault(void);
 void start_routines(void);
 struct routine *here(const char *call);
-bool is_enabled(const struct routine *routine);
 bool all_have_ended(const struct routine *routine);
-uint32_t enabled_now(void);
-struct routine *begin_of_call(void);
-void end_of_call(struct routine **in_call);
+void begin_of_call(struct in_call *call);
+void end_of_call(struct in_call *call);
 void at_call(const char *call);
 void at_thing(const char *call, enum kind kind, const void *thing, size_t size, unsigned how);
 void at_live(const char *call, const void *thing, size_t size);
@@ -360,12 +366,10 @@ void note_ending(struct routine *me, bool early);
 void write_failures(char *text, size_t room);
 bool read_failures(const char *text);
 void track_made(const char *call, const void *thing, const void *pc);
-void track_owner(const char *call, const void *owner);
 const char *place_made(const struct thing *thing);
 const struct routine *append_held(char *text, const void *count);
 void check_none_made(const char *call, const void *from, size_t size);
 void check_none_left(void);
-void track_wake(const char *call, const char *place, const void *cv, bool waited);
 const struct thing *lost_wakeup_at(const void *cv);
 void note_enter(const struct thread *self);
 void note_exit(const struct thread *self);
@@ -420,7 +424,6 @@ _Noreturn void refuse(const char *format, ...) __attribute__((format(printf, 1, 
 #define fail_if(condition, ...)		((condition) ? fail(__VA_ARGS__) : (void)0)
 #define refuse_if(condition, ...)	((condition) ? refuse(__VA_ARGS__) : (void)0)
 void write_schedule(char *text, size_t room);
-const char *short_place(const char *place);
 const char *place_of_step(const struct step *step);
 void show(FILE *to, const struct explorer_found *found);
 bool draw(const char *name, const struct explorer_found *found);

@@ -57,7 +57,7 @@ void make_barrier(void)
 }
 
 /* A thread that has its CPU isn't while a soft interrupt has it. */
-bool is_enabled(const struct routine *routine)
+static bool is_enabled(const struct routine *routine)
 {
 	const struct thread *self = routine->self;
 	if (!routine->made || routine->ended || (run.phase == SETTING_UP && routine->number != 0))
@@ -79,7 +79,7 @@ bool all_have_ended(const struct routine *routine)
 	return true;
 }
 
-uint32_t enabled_now(void)
+static uint32_t enabled_now(void)
 {
 	uint32_t enabled = 0;
 	for (unsigned number = 0; number < run.count; number++)

@@ -20,8 +20,7 @@ void *explorer_allocate(size_t size, size_t align, bool judged);
 void *explorer_calloc(size_t count, size_t size);
 void *explorer_realloc(void *block, size_t size);
 void explorer_free(void *block);
-bool explorer_is_strict(void);
-bool explorer_lowers_level(void);
+void explorer_may_sleep(void);
 bool explorer_fails(void);
 void explorer_may_end_early(bool signals);
 int explorer_last_ending(void);
@@ -63,8 +62,7 @@ void explorer_abort(void) __attribute__((noreturn));
 #define aligned_alloc(align, size)	explorer_allocate(size, align, true)
 #define posix_memalign(block, align, size)	(*(block) = explorer_allocate(size, align, false), 0)
 
-#define STRICT()			explorer_is_strict()
-#define LOWERS_LEVEL()			explorer_lowers_level()
+#define MAY_SLEEP()			explorer_may_sleep()
 #define FAILS()				explorer_fails()
 #define MAY_END_EARLY(signals)		explorer_may_end_early(signals)
 #define LAST_ENDING()			explorer_last_ending()

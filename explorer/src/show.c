@@ -19,7 +19,7 @@ void write_schedule(char *text, size_t room)
 	text[length] = '\0';
 }
 
-const char *short_place(const char *place)
+static const char *short_place(const char *place)
 {
 	const char *slash = place == NULL ? NULL : strrchr(place, '/');
 	return place == NULL ? "" : slash == NULL ? place : slash + 1;

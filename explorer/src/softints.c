@@ -9,16 +9,10 @@
 
 static struct routine *softints[KUPALDIZ_CPUS][LEVELS];
 
-/* A read section is at IPL_SOFTSERIAL, as in the kernel. */
-static int level_of(const struct thread *owner)
-{
-	return !options.strict && owner->depth > 0 && owner->level < IPL_SOFTSERIAL ? IPL_SOFTSERIAL : owner->level;
-}
-
 static bool may_have(const struct cpu *cpu, int level)
 {
 	const struct thread *owner = lock_owner(&cpu->hold);
-	return owner == NULL || (!owner->softint && level_of(owner) < level);
+	return owner == NULL || (!owner->softint && level_of_cpu(owner) < level);
 }
 
 /* Whether a soft interrupt of a higher level waits on a CPU, and no handler of that level waits for a lock. */
@@ -115,19 +109,12 @@ void lend_cpu(struct thread *me)
 void yield_cpu(struct thread *me)
 {
 	run.current->off = true;
-	if (me->softint)
-		release_cpu(me);
-	else
-		lock_release(&me->cpu->hold, me);
+	release_cpu(me);
 }
 
 void reclaim_cpu(struct thread *me)
 {
-	if (me->softint) {
-		wait_here(can_go_on, NULL);
-		acquire_cpu(me);
-	} else {
-		lock_acquire(&me->cpu->hold, me, NULL);
-	}
+	wait_here(can_go_on, NULL);
+	acquire_cpu(me);
 	run.current->off = false;
 }

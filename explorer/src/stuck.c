@@ -14,7 +14,6 @@ static const struct routine *routine_of(const struct thread *thread)
 	return NULL;
 }
 
-
 static const struct routine *stuck_softint(void)
 {
 	for (unsigned number = 0; number < run.count; number++)

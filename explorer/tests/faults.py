@@ -222,6 +222,7 @@ def run_threads(words, folder):
 
 def main():
     words, folder = sys.argv[2:], pathlib.Path(sys.argv[1])
+    os.environ["CASES_STRICT"] = "1"
     folder.mkdir(parents=True, exist_ok=True)
     if words[0] == "--threads":
         run_threads(words[1:], folder)
@@ -229,8 +230,7 @@ def main():
     passed = failed = 0
     for fault in chosen():
         program = build(words, plant(fault, folder), fault.driver, "-fsanitize=thread")
-        ran = subprocess.run([program, fault.case], stdout=subprocess.PIPE, stderr=subprocess.DEVNULL, text=True, timeout=120, check=False,
-                             env={**os.environ, "CASES_STRICT": "1"})
+        ran = subprocess.run([program, fault.case], stdout=subprocess.PIPE, stderr=subprocess.DEVNULL, text=True, timeout=120, check=False)
         right, said = judge(fault, ran.stdout)
         passed, failed = passed + right, failed + (not right)
         print(f"{'found ' if right else 'FAILED'} {fault.driver:9} {fault.name:55} {said}", flush=True)

@@ -70,7 +70,7 @@ static inline void make_case(void)
 bool is_right(void (*begin)(void), const struct stop_case *the_case)
 {
 	struct explorer_found found;
-	const struct explorer_options options = {.quiet = true, .strict = true, .found = &found, .schedules = 20, .bounded = 20, .preemptions = 1, .random = 20};
+	const struct explorer_options options = {.quiet = true, .found = &found, .schedules = 20, .bounded = 20, .preemptions = 1, .random = 20};
 	begin_case = begin;
 	body_of_case = the_case->body;
 	explorer_run(make_case, &options);

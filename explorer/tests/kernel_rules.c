@@ -18,7 +18,7 @@
 
 #include "finds.h"
 
-static kmutex_t lock;
+static kmutex_t lock, spin;
 static kcondvar_t cv;
 static pserialize_t psz;
 static struct psref_class *things;
@@ -32,6 +32,7 @@ struct hook_t hook;
 static void make_things(void)
 {
 	mutex_init(&lock, MUTEX_DEFAULT, IPL_NONE);
+	mutex_init(&spin, MUTEX_DEFAULT, IPL_VM);
 	cv_init(&cv, "cv");
 	psz = pserialize_create();
 	things = psref_class_create("thing", IPL_SOFTNET);
@@ -110,29 +111,35 @@ BODY(detach_at_splnet)
 	kupaldiz_unbind();
 }
 
-BODY(wait_at_splnet)
+static void wait_for_flag(kmutex_t *with)
 {
 	kupaldiz_bind(0);
 	int s = splnet();
-	mutex_enter(&lock);
+	mutex_enter(with);
 	while (!flag)
-		cv_wait(&cv, &lock);
-	mutex_exit(&lock);
+		cv_wait(&cv, with);
+	mutex_exit(with);
+	KASSERT(kpreempt_disabled());
 	splx(s);
 	kupaldiz_unbind();
 }
 
-BODY(set_flag_on_its_cpu)
+static void set_flag(kmutex_t *with)
 {
 	kupaldiz_bind(0);
 	int s = splnet();
 	splx(s);
-	mutex_enter(&lock);
+	mutex_enter(with);
 	flag = true;
 	cv_broadcast(&cv);
-	mutex_exit(&lock);
+	mutex_exit(with);
 	kupaldiz_unbind();
 }
+
+BODY(wait_at_splnet) { wait_for_flag(&lock); }
+BODY(set_flag_on_its_cpu) { set_flag(&lock); }
+BODY(wait_with_spin_lock) { wait_for_flag(&spin); }
+BODY(set_flag_with_spin_lock) { set_flag(&spin); }
 
 BODY(do_nothing_else) { explorer_point(); }
 
@@ -148,9 +155,25 @@ BODY(schedule_and_sleep_at_splnet)
 	kupaldiz_unbind();
 }
 
-/* A function of xcall(9) with high priority still mustn't sleep. */
-static void sleep_in_call(void *one, void *other) { (void)one; (void)other; pserialize_perform(psz); }
-BODY(call_to_sleep) { xc_wait(xc_unicast(XC_HIGHPRI, sleep_in_call, NULL, NULL, kupaldiz_cpu(1))); }
+static void perform_raised(void)
+{
+	int s = splnet();
+	pserialize_perform(psz);
+	KASSERT(kpreempt_disabled());
+	splx(s);
+}
+
+static void sleep_in_call(void *one, void *other) { (void)one; (void)other; perform_raised(); }
+static void sleep_at_part(void *own, void *arg, struct cpu_info *cpu) { (void)own; (void)arg; (void)cpu; perform_raised(); }
+
+/* A function of xcall(9) may do so, too, unless it has high priority. */
+BODY(call_to_sleep)
+{
+	percpu_t *percpu = percpu_alloc(sizeof(int));
+	xc_wait(xc_unicast(0, sleep_in_call, NULL, NULL, kupaldiz_cpu(1)));
+	percpu_foreach_xcall(percpu, 0, sleep_at_part, NULL);
+	percpu_free(percpu, sizeof(int));
+}
 
 /* ---- A soft interrupt takes a lock of IPL_NONE. ---- */
 
@@ -263,6 +286,7 @@ static void end_things(void)
 	pserialize_destroy(psz);
 	cv_destroy(&cv);
 	mutex_destroy(&lock);
+	mutex_destroy(&spin);
 }
 
 static const struct find finds[] = {
@@ -275,9 +299,10 @@ static const struct find finds[] = {
 	    detach_at_splnet, use_target, .make = establish, .strict = true, .finish = end_things},
 	{"a wait at splnet", NULL, wait_at_splnet, set_flag_on_its_cpu, .finish = end_things},
 	{"the same, strictly", "cv_wait: at a raised level", wait_at_splnet, set_flag_on_its_cpu, .strict = true, .finish = end_things},
+	{"a wait at splnet with a spin lock", NULL, wait_with_spin_lock, set_flag_with_spin_lock, .finish = end_things},
 	{"a handler while its CPU's thread sleeps", NULL,
 	    schedule_and_sleep_at_splnet, do_nothing_else, .make = establish, .outcomes = {"0", "1"}, .finish = end_things},
-	{"a sleep in a call with high priority", "pserialize_perform: at a raised level", call_to_sleep, do_nothing_else, .finish = end_things},
+	{"functions of xcall(9) that sleep at a raised level", NULL, call_to_sleep, do_nothing_else, .finish = end_things},
 	{"a lock of IPL_NONE in a soft interrupt", NULL, schedule, lock_and_add, .make = establish_locker, .finish = end_things},
 	{"the same, strictly", "mutex_enter: in a soft interrupt, and the lock is of IPL_NONE",
 	    schedule, lock_and_add, .make = establish_locker, .strict = true, .finish = end_things},

@@ -8,38 +8,22 @@
  *     outcomes reduced FIRST COUNT  what the search with the reduction comes to, for a comparison with a reduction that has a fault
  *     outcomes print FIRST COUNT    the same of those that real threads may be compared with
  */
-#include <time.h>
-
-#include "../../netbsd/tests/pages.h"
-#include "cases.h"
+#include "deeds.h"
 
 enum { MOST = 4, LONGEST = 16 };
 
 static char texts[MOST][LONGEST];
 
-static unsigned words[2];	/* by atomic accesses */
 static unsigned plains[2];	/* by plain ones */
 static bool racy;		/* a data race is no fault, and what it decides is an outcome */
 static bool reduced_alone;	/* shows what it comes to, instead of comparing that */
 static bool prints;		/* the same, for real threads */
-static kmutex_t locks[2], spin, *shared;
-static krwlock_t rw;
+static kmutex_t *shared;
 static bool has_rw[MOST];
-static kcondvar_t cv;
-static bool flag, gone;
-static pserialize_t psz;
-static struct psref_class *things;
-static struct psref_target target;
-static struct localcount local;
-static bool drained;
 static void *own_softints[MOST];
 static unsigned *blocks[MOST];
-static callout_t callout;
 static struct pool pool;
-static pool_cache_t cache;
 static void *pooled;
-static percpu_t *percpu;
-static struct workqueue *queue;
 static struct work *work;
 static char seen[MOST][LONGEST + 1];
 static unsigned count[MOST];
@@ -50,7 +34,7 @@ UNSEEN static void observe(unsigned thread, unsigned value)
 		seen[thread][count[thread]++] = (char)(value == 0 ? '-' : 'a' + (value - 1) % 26);
 }
 
-static unsigned load(unsigned at)
+static unsigned load_plainly(unsigned at)
 {
 	return plains[at];
 }
@@ -92,22 +76,6 @@ static bool uses(const char *letters)
 	return false;
 }
 
-static void wait_for_flag(void)
-{
-	mutex_enter(&locks[0]);
-	while (!flag)
-		cv_wait(&cv, &locks[0]);
-	mutex_exit(&locks[0]);
-}
-
-static void wait_for_a_tick(unsigned thread)
-{
-	mutex_enter(&locks[0]);
-	if (!flag)
-		observe(thread, cv_timedwait(&cv, &locks[0], 1) == 0 ? 1 : 2);
-	mutex_exit(&locks[0]);
-}
-
 /* Ends the thread's own soft interrupt: with `frees`, what its handler uses is freed first. */
 UNSEEN static void end_softint(unsigned thread, bool frees)
 {
@@ -121,21 +89,6 @@ UNSEEN static void end_softint(unsigned thread, bool frees)
 	own_softints[thread] = NULL;
 }
 
-/* Acquires a local reference where the count isn't drained, and looks at a word while it has it. */
-static void count_in(unsigned thread)
-{
-	int s = pserialize_read_enter();
-	bool found = !atomic_load_acquire(&drained);
-	if (found)
-		localcount_acquire(&local);
-	pserialize_read_exit(s);
-	observe(thread, found);
-	if (found) {
-		observe(thread, atomic_load_relaxed(&words[1]));
-		localcount_release(&local, &cv, &locks[1]);
-	}
-}
-
 static void drain(void)
 {
 	mutex_enter(&locks[1]);
@@ -144,31 +97,6 @@ static void drain(void)
 	localcount_drain(&local, &cv, &locks[1]);
 	mutex_exit(&locks[1]);
 	localcount_fini(&local);
-}
-
-static void set_flag(void)
-{
-	mutex_enter(&locks[0]);
-	flag = true;
-	cv_broadcast(&cv);
-	mutex_exit(&locks[0]);
-}
-
-/* Acquires a reference where the target isn't gone, and looks at a word while it has it. */
-static void use_target(unsigned thread)
-{
-	struct psref psref;
-	int bound = curlwp_bind(), s = pserialize_read_enter();
-	bool found = !atomic_load_acquire(&gone);
-	if (found)
-		psref_acquire(&psref, &target, things);
-	pserialize_read_exit(s);
-	observe(thread, found);
-	if (found) {
-		observe(thread, atomic_load_relaxed(&words[0]));
-		psref_release(&psref, &target, things);
-	}
-	curlwp_bindx(bound);
 }
 
 HANDLER(store_and_exit, atomic_store_relaxed(&words[1], 24); *(unsigned *)arg = cpu_number() + 1; kthread_exit(0))
@@ -243,16 +171,6 @@ static void make_own_queue(unsigned thread)
 	observe(thread, cpu);
 }
 
-/* An object tells the order in which those of its cache were made. */
-UNSEEN static int number_object(void *arg, void *object, int flags)
-{
-	static unsigned made;
-	(void)arg;
-	(void)flags;
-	*(unsigned *)object = ++made;
-	return 0;
-}
-
 UNSEEN static void use_cache(unsigned thread)
 {
 	unsigned *object = pool_cache_get(cache, PR_WAITOK);
@@ -284,11 +202,11 @@ UNSEEN static void execute(unsigned thread, char letter, unsigned value)
 	case '<': (void)pserialize_read_enter(); break;
 	case '>': pserialize_read_exit(0); break;
 	case 'P': pserialize_perform(psz); break;
-	case 'w': wait_for_flag(); break;
-	case 's': set_flag(); break;
+	case 'w': await_flag(thread); break;
+	case 's': set_flag(thread); break;
 	case 'r': case 'W': rw_enter(&rw, letter == 'r' ? RW_READER : RW_WRITER); has_rw[thread] = true; break;
 	case '|': if (has_rw[thread]) rw_exit(&rw); break;
-	case 'g': use_target(thread); break;
+	case 'g': refer(thread); break;
 	case 'D': atomic_store_release(&gone, true); pserialize_perform(psz); psref_target_destroy(&target, things); break;
 	case 'h': case ':': case 'I': break;
 	case '9': try_spin(thread); break;
@@ -301,15 +219,15 @@ UNSEEN static void execute(unsigned thread, char letter, unsigned value)
 	case 'd': delay(10000); break;
 	case 'm': softint_schedule(softints[LOCKS].cookie); break;
 	case 'v': observe(thread, (unsigned)getticks()); break;
-	case 'T': wait_for_a_tick(thread); break;
+	case 'T': await_flag_for_a_tick(thread); break;
 	case 'S': cv_signal(&cv); break;
 	case 'j': if (own_softints[thread] != NULL) softint_schedule(own_softints[thread]); break;
 	case 'e': end_softint(thread, false); break;
 	case 'f': end_softint(thread, true); break;
 	case 'l': (void)splnet(); break;
 	case 'L': splx(IPL_NONE); break;
-	case 'x': observe(thread, load(0)); break;
-	case 'y': observe(thread, load(1)); break;
+	case 'x': observe(thread, load_plainly(0)); break;
+	case 'y': observe(thread, load_plainly(1)); break;
 	case 'X': store(0, value); break;
 	case 'Y': store(1, value); break;
 	case '#': count_plainly(NULL); break;
@@ -469,8 +387,7 @@ static struct explorer_found explore(bool whole)
 {
 	struct explorer_found found;
 	/* A real thread may be late by several ticks on a busy machine. */
-	/* The layer on real threads has soft interrupts inside of sections, as the explorer has where it is strict. */
-	const struct explorer_options options = {.quiet = true, .whole = whole, .reliable = true, .strict = prints, .schedules = most_schedules, .finish = finish,
+	const struct explorer_options options = {.quiet = true, .whole = whole, .reliable = true, .schedules = most_schedules, .finish = finish,
 	    .found = &found, .bounded = 1, .preemptions = 1, .random = 1, .racy = racy, .ticks = prints ? 3 : ticks};
 	explorer_run(begin, &options);
 	return found;
@@ -533,14 +450,7 @@ static void compare(void)
 
 /* ---- Random programs: balanced in their locks and sections. ---- */
 
-static uint64_t seed;
 static unsigned seconds;	/* for short programs */
-
-static unsigned pick(unsigned below)
-{
-	seed = seed * 6364136223846793005u + 1442695040888963407u;
-	return (unsigned)(seed >> 33) % below;
-}
 
 static void add(char *text, const char *more)
 {
@@ -566,15 +476,13 @@ static unsigned points_of(const char *text)
 	return points;
 }
 
-/* Whether the program of so many threads may have few enough orders: steps of the next thread are put between those of the others. */
+/* Whether the program of so many threads may have few enough orders. */
 static bool is_short(unsigned threads)
 {
-	double orders = 1;
-	unsigned points = 0;
+	unsigned points[MOST];
 	for (unsigned thread = 0; thread < threads; thread++)
-		for (unsigned own = 1, all = points_of(texts[thread]); own <= all; own++)
-			orders = orders * ++points / own;
-	return 4 * orders < (double)most_schedules;
+		points[thread] = points_of(texts[thread]);
+	return 4 * orders_of(points, threads) < (double)most_schedules;
 }
 
 static void compare_random(uint64_t of)
@@ -626,13 +534,6 @@ static void compare_written(void)
 		if (racy)
 			compare();
 	}
-}
-
-static time_t now(void)
-{
-	struct timespec time;
-	clock_gettime(CLOCK_MONOTONIC, &time);
-	return time.tv_sec;
 }
 
 int main(int count_of_words, char **given)

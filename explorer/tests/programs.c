@@ -1,7 +1,7 @@
 /*
- * programs - random programs come to the same outcomes, faults and deadlocks with the reduction and without
+ * programs - written and random programs come to the same outcomes, faults and deadlocks with the reduction and without
  *
- *     programs SECONDS [FIRST]     programs with the seeds from FIRST on, for so long
+ *     programs SECONDS [FIRST]     those that are written here, and random ones with the seeds from FIRST on, for so long
  *     programs count COUNT FIRST   so many that were compared to their end
  *     programs seed FIRST          that one alone, with what it comes to
  *
@@ -9,48 +9,16 @@
  * that has too many orders some are tried, by few preemptions and by random priorities: what they come to is among what the reduction comes to.
  */
 #include <stdlib.h>
-#include <sys/atomic.h>
-#include <sys/callout.h>
-#include <sys/condvar.h>
-#include <sys/cpu.h>
-#include <sys/intr.h>
-#include <sys/kmem.h>
-#include <sys/kthread.h>
-#include <sys/localcount.h>
-#include <sys/lwp.h>
-#include <sys/module_hook.h>
-#include <sys/mutex.h>
 #include <sys/once.h>
-#include <sys/percpu.h>
-#include <sys/pool.h>
-#include <sys/pserialize.h>
-#include <sys/psref.h>
-#include <sys/rwlock.h>
-#include <sys/systm.h>
-#include <sys/workqueue.h>
-#include <sys/xcall.h>
-#include <time.h>
 
 #include "compare.h"
+#include "deeds.h"
 
 /* What is seen has a row for each thread, and for the threads of works, of calls, and of soft interrupts on the first three CPUs. */
 enum { MOST = 3, LONGEST = 5, OF_WORK = MOST, OF_CALL, OF_SOFTINT, ROWS_SEEN = OF_SOFTINT + 3, ROOM = 9, FEW = 3 };
 
-static unsigned words[2];	/* by atomic accesses */
-static kmutex_t locks[2], spin;
-static krwlock_t rw;
-static kcondvar_t cv;
-static bool flag, gone, drained;
-static pserialize_t psz;
-static struct psref_class *things;
-static struct psref_target target;
-static struct localcount local;
 static void *softints[3];
-static callout_t callout;
-static percpu_t *percpu;
-static struct workqueue *queue;
 static struct work works[MOST];
-static pool_cache_t cache;
 MODULE_HOOK(hook, unsigned, (void));
 struct hook_t hook;
 
@@ -63,7 +31,6 @@ UNSEEN static void observe(unsigned row, unsigned value)
 		seen[row][count[row]++] = (char)(value == 0 ? '-' : 'a' + (value - 1) % 26);
 }
 
-static unsigned load(unsigned at) { return atomic_load_relaxed(&words[at]); }
 static void store(unsigned at, unsigned value) { atomic_store_relaxed(&words[at], value); }
 
 /* ---- What a thread does. ---- */
@@ -220,6 +187,23 @@ static void raise_and_wait(unsigned thread)
 	splx(s);
 }
 
+static void raise_and_lock(unsigned thread)
+{
+	int s = splnet();
+	lock_and_load(thread);
+	observe(thread, load(1));
+	splx(s);
+}
+
+static void raise_and_await_a_tick(unsigned thread)
+{
+	int s = splnet();
+	mutex_enter(&spin);
+	observe(thread, cv_timedwait(&cv, &spin, 1) == 0 ? 1 : 2);
+	mutex_exit(&spin);
+	splx(s);
+}
+
 static void kernel_lock_around(unsigned thread, void (*body)(unsigned thread))
 {
 	KERNEL_LOCK(1, NULL);
@@ -259,23 +243,6 @@ static void load_without_preemption(unsigned thread)
 	kpreempt_enable();
 }
 
-/* Acquires a passive reference where the target isn't gone, and looks at a word while it has it. */
-static void refer(unsigned thread)
-{
-	struct psref psref;
-	int bound = curlwp_bind(), s = pserialize_read_enter();
-	bool found = !atomic_load_acquire(&gone);
-	if (found)
-		psref_acquire(&psref, &target, things);
-	pserialize_read_exit(s);
-	observe(thread, found);
-	if (found) {
-		observe(thread, load(0));
-		psref_release(&psref, &target, things);
-	}
-	curlwp_bindx(bound);
-}
-
 static void destroy(unsigned thread)
 {
 	(void)thread;
@@ -284,20 +251,6 @@ static void destroy(unsigned thread)
 	atomic_store_release(&gone, true);
 	pserialize_perform(psz);
 	psref_target_destroy(&target, things);
-}
-
-/* The same of a local reference. */
-static void count_in(unsigned thread)
-{
-	int s = pserialize_read_enter();
-	bool found = !atomic_load_acquire(&drained);
-	if (found)
-		localcount_acquire(&local);
-	pserialize_read_exit(s);
-	if (found) {
-		observe(thread, load(1));
-		localcount_release(&local, &cv, &locks[1]);
-	}
 }
 
 /* A reference that the thread has from the beginning. */
@@ -314,32 +267,6 @@ static void drain(unsigned thread)
 		localcount_drain(&local, &cv, &locks[1]);
 	}
 	mutex_exit(&locks[1]);
-}
-
-static void await_flag(unsigned thread)
-{
-	(void)thread;
-	mutex_enter(&locks[0]);
-	while (!flag)
-		cv_wait(&cv, &locks[0]);
-	mutex_exit(&locks[0]);
-}
-
-static void set_flag(unsigned thread)
-{
-	(void)thread;
-	mutex_enter(&locks[0]);
-	flag = true;
-	cv_broadcast(&cv);
-	mutex_exit(&locks[0]);
-}
-
-static void await_flag_for_a_tick(unsigned thread)
-{
-	mutex_enter(&locks[0]);
-	if (!flag)
-		observe(thread, cv_timedwait(&cv, &locks[0], 1) == 0 ? 1 : 2);
-	mutex_exit(&locks[0]);
 }
 
 static void wake_one(unsigned thread) { (void)thread; cv_signal(&cv); }
@@ -373,11 +300,48 @@ static void make_and_join(unsigned thread)
 	kthread_join(made);
 }
 
-/* ---- The list of them, and what each needs. ---- */
+/* ---- What threads of written programs alone do. ---- */
+
+/* A user that has seen the teardown doesn't release its reference. */
+static void count_in_unless_gone(unsigned thread)
+{
+	(void)thread;
+	int s = pserialize_read_enter();
+	bool found = !atomic_load_acquire(&drained);
+	if (found)
+		localcount_acquire(&local);
+	pserialize_read_exit(s);
+	if (found && !atomic_load_relaxed(&gone))
+		localcount_release(&local, &cv, &locks[1]);
+}
+
+static void tear_down(unsigned thread, void (*wait)(unsigned thread))
+{
+	mutex_enter(&locks[1]);
+	atomic_store_release(&drained, true);
+	wait(thread);
+	atomic_store_relaxed(&gone, true);
+	localcount_drain(&local, &cv, &locks[1]);
+	mutex_exit(&locks[1]);
+}
+
+static void tear_down_by_perform(unsigned thread) { tear_down(thread, perform); }
+static void tear_down_by_barrier(unsigned thread) { tear_down(thread, barrier); }
+static void acquire_local(unsigned thread) { (void)thread; localcount_acquire(&local); }
+static void release_any(unsigned thread) { (void)thread; localcount_release(&local, &cv, &locks[1]); }
+
+/* An object of a cache whose readers the cache's end waits for. */
+static unsigned *object;
+
+static void load_object(unsigned thread) { observe(thread, atomic_load_relaxed(object)); }
+static void destroy_cache(unsigned thread) { (void)thread; pool_cache_destroy(cache); }
+static void fail(unsigned thread) { explorer_point(); panic("thread %u", thread); }
+
+/* ---- The list of all, and what each needs. ---- */
 
 enum {
 	LOCKS = 1, SPIN = 2, RW = 4, CV = 8, PSZ = 16, TARGET = 32, LOCAL = 64, SOFTINTS = 128, CALLOUT = 256, PERCPU = 512, QUEUE = 1024, CACHE = 2048,
-	HOOK = 4096
+	HOOK = 4096, OBJECT = 8192, COUNT = LOCAL | LOCKS | CV | PSZ
 };
 
 struct thing {
@@ -389,7 +353,7 @@ struct thing {
 static const struct thing simple[] = {
     {"load 0", load_0, 1, 0}, {"load 1", load_1, 1, 0}, {"store 0", store_0, 1, 0}, {"store 1", store_1, 1, 0}, {"add 0", add_0, 1, 0},
     {"lock, load", lock_and_load, 3, LOCKS}, {"lock, store", lock_and_store, 3, LOCKS}, {"section", read_section, 3, PSZ}, {"signal", wake_one, 1, CV},
-    {"schedule 0", schedule_0, 3, SOFTINTS}, {"ask one", call_one_alone, 4, 0}, {"count out", count_out, 1, LOCAL | LOCKS | CV | PSZ},
+    {"schedule 0", schedule_0, 3, SOFTINTS}, {"ask one", call_one_alone, 4, 0}, {"count out", count_out, 1, COUNT},
     {"try lock", try_lock, 2, LOCKS}};
 
 static const struct thing things_to_do[] = {
@@ -401,16 +365,22 @@ static const struct thing things_to_do[] = {
     {"enqueue", enqueue, 4, QUEUE}, {"await work", await_work, 2, QUEUE}, {"schedule 0", schedule_0, 3, SOFTINTS},
     {"schedule 1", schedule_1, 6, SOFTINTS | LOCKS},
     {"schedule 2", schedule_2, 3, SOFTINTS}, {"section", read_section, 3, PSZ}, {"section twice", read_section_twice, 4, PSZ}, {"perform", perform, 1, PSZ},
-    {"refer", refer, 6, TARGET | PSZ}, {"destroy", destroy, 5, TARGET | PSZ}, {"count in", count_in, 5, LOCAL | LOCKS | CV | PSZ},
-    {"count out", count_out, 1, LOCAL | LOCKS | CV | PSZ}, {"drain", drain, 7, LOCAL | LOCKS | CV | PSZ}, {"lock both", lock_01, 5, LOCKS},
+    {"refer", refer, 6, TARGET | PSZ}, {"destroy", destroy, 5, TARGET | PSZ}, {"count in", count_in, 5, COUNT},
+    {"count out", count_out, 1, COUNT}, {"drain", drain, 7, COUNT}, {"lock both", lock_01, 5, LOCKS},
     {"lock both back", lock_10, 5, LOCKS}, {"try lock", try_lock, 2, LOCKS}, {"spin, load", spin_and_load, 3, SPIN}, {"spin, store", spin_and_store, 3, SPIN},
     {"reader", read_lock, 3, RW}, {"writer", write_lock, 3, RW}, {"await flag", await_flag, 3, LOCKS | CV}, {"set flag", set_flag, 3, LOCKS | CV},
     {"await a tick", await_flag_for_a_tick, 4, LOCKS | CV}, {"signal", wake_one, 1, CV}, {"pause", pause_once, 2, 0}, {"set callout", set_callout, 5, CALLOUT},
     {"halt callout", halt_callout, 1, CALLOUT}, {"stop callout", stop_callout, 1, CALLOUT}, {"raise, store", raise_and_store, 3, 0},
     {"no preemption, load", load_without_preemption, 3, 0}, {"find CPU", find_cpu, 1, 0}, {"cache", use_cache, 3, CACHE}, {"thread", make_and_join, 4, 0},
-    {"raise, wait", raise_and_wait, 5, PSZ}, {"kernel lock", lock_kernel, 5, 0}, {"kernel lock, wait", lock_kernel_and_wait, 6, PSZ},
+    {"raise, wait", raise_and_wait, 5, PSZ}, {"raise, lock", raise_and_lock, 6, LOCKS}, {"raise, await a tick", raise_and_await_a_tick, 7, SPIN | CV},
+    {"kernel lock", lock_kernel, 5, 0}, {"kernel lock, wait", lock_kernel_and_wait, 6, PSZ},
     {"kernel lock, lock", lock_kernel_and_lock, 8, LOCKS}, {"kernel lock, spin", lock_kernel_and_spin, 7, SPIN}, {"once", run_once, 6, PSZ},
     {"sleep", sleep_for_a_tick, 2, 0}, {"wake up", wake_sleepers, 1, 0}};
+
+static const struct thing only_written[] = {
+    {"count in, unless gone", count_in_unless_gone, 5, COUNT}, {"tear down by perform", tear_down_by_perform, 7, COUNT},
+    {"tear down by barrier", tear_down_by_barrier, 14, COUNT}, {"acquire", acquire_local, 1, COUNT}, {"release any", release_any, 1, COUNT},
+    {"load object", load_object, 1, OBJECT}, {"destroy cache", destroy_cache, 2, OBJECT}, {"fail", fail, 1, 0}};
 
 struct text {
 	int cpu;	/* below 0: the thread isn't bound */
@@ -427,15 +397,6 @@ HANDLER(store_softly, store(1, 22))
 HANDLER(lock_softly, mutex_enter(&locks[0]); store(0, 23); mutex_exit(&locks[0]))
 HANDLER(load_softly, unsigned cpu = cpu_number(); observe(OF_SOFTINT + (cpu < 2 ? cpu : 2), load(0)))
 static void do_work(struct work *done, void *arg) { (void)done; (void)arg; observe(OF_WORK, load(1)); store(0, 21); }
-
-static int make_object(void *arg, void *object, int flags)
-{
-	static unsigned made;
-	(void)arg;
-	(void)flags;
-	*(unsigned *)object = ++made;
-	return 0;
-}
 
 static void make_softints(void)
 {
@@ -470,8 +431,17 @@ static void make_percpu(void) { percpu = percpu_alloc(sizeof(unsigned)); }
 static void end_percpu(void) { percpu_free(percpu, sizeof(unsigned)); }
 static void make_queue(void) { EXPECT(workqueue_create(&queue, "queue", do_work, NULL, PRI_NONE, IPL_NONE, WQ_MPSAFE) == 0); }
 static void end_queue(void) { workqueue_destroy(queue); }
-static void make_cache(void) { cache = pool_cache_init(sizeof(unsigned), 0, 0, 0, "cache", NULL, IPL_NONE, make_object, NULL, NULL); }
+static void make_cache(void) { cache = pool_cache_init(sizeof(unsigned), 0, 0, 0, "cache", NULL, IPL_NONE, number_object, NULL, NULL); }
 static void end_cache(void) { pool_cache_destroy(cache); }
+
+static void make_object(void)
+{
+	cache = pool_cache_init(sizeof(*object), 0, 0, PR_PSERIALIZE, "cache", NULL, IPL_NONE, number_object, NULL, NULL);
+	object = pool_cache_get(cache, PR_WAITOK);
+	pool_cache_put(cache, object);
+}
+
+static void end_object(void) { }
 static void make_hook(void) { }
 static void end_hook(void) { if (hook.hooked) MODULE_HOOK_UNSET(hook); }
 
@@ -480,7 +450,8 @@ static const struct made {
 	void (*make)(void), (*end)(void);
 } all_made[] = {{LOCKS, make_locks, end_locks}, {SPIN, make_spin, end_spin}, {RW, make_rw, end_rw}, {CV, make_cv, end_cv}, {PSZ, make_psz, end_psz},
     {TARGET, make_target, end_target}, {LOCAL, make_local, end_local}, {SOFTINTS, make_softints, end_softints}, {CALLOUT, make_callout, end_callout},
-    {PERCPU, make_percpu, end_percpu}, {QUEUE, make_queue, end_queue}, {CACHE, make_cache, end_cache}, {HOOK, make_hook, end_hook}};
+    {PERCPU, make_percpu, end_percpu}, {QUEUE, make_queue, end_queue}, {CACHE, make_cache, end_cache}, {HOOK, make_hook, end_hook},
+    {OBJECT, make_object, end_object}};
 
 UNSEEN static void run_text(void *arg)
 {
@@ -516,21 +487,64 @@ static void finish(void)
 	explorer_outcome("%u %u", words[0], words[1]);
 }
 
-/* ---- Random programs. ---- */
-
-static uint64_t seed;
-
-static unsigned pick(unsigned below)
-{
-	seed = seed * 6364136223846793005u + 1442695040888963407u;
-	return (unsigned)(seed >> 33) % below;
-}
-
 static void add(struct text *text, const struct thing *thing)
 {
 	text->of[text->length++] = thing;
 	needs |= thing->needs;
 }
+
+/* ---- Written programs, of which an earlier reduction left schedules out. Each comes to more than one end. ---- */
+
+static const struct written {
+	int cpu;	/* as in a text */
+	void (*does[3])(unsigned thread);
+} written[][MOST] = {
+    /* An unbound thread's release takes its CPU and gives it back in one step; also in a teardown, which may hang then. */
+    {{-1, {load_0, count_out}}, {0, {read_section, store_0}}},
+    {{-1, {load_0, count_out}}, {0, {refer, store_0}}},
+    {{-1, {count_in_unless_gone}}, {-1, {tear_down_by_barrier}}},
+    {{-1, {count_in_unless_gone}}, {-1, {tear_down_by_perform}}},
+    /* Of two calls the second is asked for before the first has begun. */
+    {{-1, {call_all}}, {-1, {load_0, call_nobody}}},
+    {{-1, {load_0, call_one_for_nothing}}, {-1, {call_one}}},
+    /* A thread releases another one's reference, which may come too early. */
+    {{-1, {acquire_local}}, {-1, {release_any}}},
+    {{-1, {acquire_local}}, {-1, {release_any}}, {-1, {acquire_local, release_any}}},
+    /* A call gives back memory inside. */
+    {{-1, {load_object}}, {-1, {destroy_cache}}},
+    /* Two threads that touch nothing: neither one's fault hides the other's. */
+    {{-1, {fail}}, {-1, {fail}}},
+};
+
+static const struct thing *thing_with(void (*body)(unsigned thread), const struct thing *from, size_t all)
+{
+	size_t at = 0;
+	while (at < all && from[at].body != body)
+		at++;
+	return at < all ? &from[at] : NULL;
+}
+
+#define ROWS(table)	(table), sizeof(table) / sizeof((table)[0])
+
+static void add_body(struct text *text, void (*body)(unsigned thread))
+{
+	const struct thing *found = thing_with(body, ROWS(only_written));
+	found = found != NULL ? found : thing_with(body, ROWS(simple));
+	add(text, found != NULL ? found : thing_with(body, ROWS(things_to_do)));
+}
+
+static void write_program(const struct written *program)
+{
+	ticks = 1;
+	needs = 0;
+	for (threads = 0; threads < MOST && program[threads].does[0] != NULL; threads++) {
+		texts[threads] = (struct text){.cpu = program[threads].cpu};
+		for (unsigned at = 0; at < 3 && program[threads].does[at] != NULL; at++)
+			add_body(&texts[threads], program[threads].does[at]);
+	}
+}
+
+/* ---- Random programs. ---- */
 
 static void add_simple(struct text *text, unsigned most)
 {
@@ -554,19 +568,15 @@ static void make_program(uint64_t of)
 	}
 }
 
-/* Whether the program may have few enough orders: steps of the next thread are put between those of the others. */
 static bool is_short(double most)
 {
-	double orders = 1;
-	unsigned points = 0;
+	unsigned points[MOST];
 	for (unsigned thread = 0; thread < threads; thread++) {
-		unsigned all = 1;
+		points[thread] = 1;
 		for (unsigned at = 0; at < texts[thread].length; at++)
-			all += texts[thread].of[at]->points;
-		for (unsigned own = 1; own <= all; own++)
-			orders = orders * ++points / own;
+			points[thread] += texts[thread].of[at]->points;
 	}
-	return orders < most;
+	return orders_of(points, threads) < most;
 }
 
 static void show_program(uint64_t of)
@@ -591,6 +601,25 @@ static struct explorer_found sample(uint64_t of)
 	return search_by(begin, (struct explorer_options){.schedules = 1, .bounded = 100, .random = 100, .seed = of + 1, .ticks = ticks, .finish = finish});
 }
 
+static void show_pair(uint64_t of, const struct pair *pair)
+{
+	show_program(of);
+	show_found("whole", &pair->whole);
+	show_found("reduced", &pair->reduced);
+}
+
+static void compare_written(void)
+{
+	for (unsigned row = 0; row < sizeof(written) / sizeof(written[0]); row++) {
+		write_program(written[row]);
+		const struct pair pair = {search_for(begin, finish, 10000, ticks, true), search_for(begin, finish, 10000, ticks, false)};
+		if (do_agree(&pair) && are_through(&pair) && pair.whole.outcomes > 1)
+			continue;
+		wrong++;
+		show_pair(row, &pair);
+	}
+}
+
 static void compare(uint64_t of, bool shows)
 {
 	bool is_long = !is_short(1.5 * SCHEDULES);
@@ -605,18 +634,8 @@ static void compare(uint64_t of, bool shows)
 			faulty++;
 			break;
 		}
-	if (agree && !shows)
-		return;
-	show_program(of);
-	show_found("whole", &pair.whole);
-	show_found("reduced", &pair.reduced);
-}
-
-static time_t now(void)
-{
-	struct timespec time;
-	clock_gettime(CLOCK_MONOTONIC, &time);
-	return time.tv_sec;
+	if (!agree || shows)
+		show_pair(of, &pair);
 }
 
 int main(int words_given, char **given)
@@ -630,6 +649,7 @@ int main(int words_given, char **given)
 		compare(first, true);
 		return wrong != 0;
 	}
+	compare_written();
 	for (; counts ? compared < most : now() < end; first++) {
 		make_program(first);
 		if (is_short(1.5 * SCHEDULES) || (!counts && first % LONG_IN == 0))

@@ -10,7 +10,7 @@ from pathlib import Path
 
 EXPLORER = Path(__file__).resolve().parent.parent
 WITHOUT = {
-    "looks at nothing but the thread itself": "assert_sleepable at cpu cpu_softintr_p curcpu curlwp hz kernel_locked kpreempt_disabled set_hz softnet"
+    "looks at nothing but the thread itself": "assert_sleepable at cpu cpu_softintr_p curcpu curlwp hz kernel_locked kpreempt_disabled set_hz set_strict softnet"
     " mutex_ownable mutex_owned pserialize_in_read_section pserialize_not_in_read_section rw_write_held",
     "initialises what no other thread has yet": "kthread_create mutex_obj_alloc percpu_alloc percpu_create pool_cache_init pool_init pserialize_create"
     " psref_class_create softint_establish workqueue_create",

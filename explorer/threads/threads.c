@@ -102,6 +102,7 @@ static void *run_thread(void *of)
 static void run(void (*setup)(void), const struct explorer_options *options)
 {
 	alarm(5);
+	kupaldiz_set_strict(options->strict);
 	setup();
 	pthread_barrier_init(&begin, NULL, thread_count);
 	for (unsigned at = 0; at < thread_count; at++)

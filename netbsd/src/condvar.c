@@ -24,7 +24,8 @@ static void require_sleepable_with(struct thread *me, const kmutex_t *mutex)
 		return;
 	}
 	stop_if(me, me->softint, "in a soft interrupt");
-	stop_if(me, me->depth > 0 || me->spins > 1 || me->level_before > IPL_NONE || me->preemptions > 0, "the thread has more than this spin lock");
+	bool keeps_level = me->level_before > IPL_NONE && (is_strict || me->called);
+	stop_if(me, me->depth > 0 || me->spins > 1 || keeps_level || me->preemptions > 0, "the thread has more than this spin lock");
 	/* The lock's own level is right. */
 	stop_if(me, me->spins_at[me->level] == 0, "at a raised level");
 }

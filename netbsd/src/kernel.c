@@ -42,6 +42,10 @@ void kupaldiz_set_hz(int number)
 	ticks_a_second = number;
 }
 
+bool is_strict;
+
+void kupaldiz_set_strict(bool strict) { is_strict = strict; }
+
 int getticks(void) { return (int)(now() / tick_length()); }
 time_t getuptime(void) { return time_after(0).tv_sec; }
 

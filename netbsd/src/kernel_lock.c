@@ -20,14 +20,22 @@ static void give_kernel_lock(struct thread *me, unsigned count)
 
 struct sleep begin_sleep(struct thread *me)
 {
-	struct sleep sleep = {begin_wait(), me->kernel_locks};
+	struct sleep sleep = {begin_wait(), me->level, me->kernel_locks};
 	give_kernel_lock(me, sleep.kernel_locks);
+	if (!me->softint)
+		lower_level(me, IPL_NONE);
 	return sleep;
 }
 
+/* It has its level on the CPU where it had it before, or was bound meanwhile. */
 void end_sleep(struct thread *me, struct sleep sleep)
 {
 	take_kernel_lock(me, sleep.kernel_locks);
+	if (sleep.level > me->level) {
+		me->holds++;
+		lock_acquire(&me->cpu->hold, me, report_cpu_wait);
+		me->level = sleep.level;
+	}
 	end_wait(sleep.cancels);
 }
 

@@ -81,11 +81,11 @@ void __asan_unpoison_memory_region(const volatile void *at, size_t size);
 /* How a wait for a condition variable ends: early if nobody ended it. */
 enum ending { IN_TIME, AS_IF_WOKEN, BY_SIGNAL };
 
-/* What the explorer alone decides: whether a call that may fail does so, and whether the code's next wait, which may be one that signals end, ends early; how
- * the last one has ended. It is told of a work that isn't in its queue any more. */
+/* What the explorer alone decides: that a call which may sleep gives a raised level up until its end, also where it needn't wait; whether a call that may fail does
+ * so, and whether the code's next wait, which may be one that signals end, ends early; how the last one has ended. It is told of a work that isn't in its
+ * queue any more. */
 #ifndef FAILS
-#define STRICT()		true	/* what the kernel allows stops where it is no good */
-#define LOWERS_LEVEL()		false	/* a call that may sleep gives a raised level up until its end */
+#define MAY_SLEEP()		((void)0)
 #define FAILS()			false
 #define MAY_END_EARLY(signals)	((void)(signals))
 #define LAST_ENDING()		IN_TIME
@@ -145,6 +145,7 @@ struct thread {
 	unsigned spins_at[IPL_HIGH + 1];	/* of them, those of each level */
 	int level, level_before;	/* the CPU's level, and what it was before the first spin lock */
 	bool softint;
+	bool called;			/* it runs a function of xcall(9) with high priority */
 	bool kthread;			/* kthread_create made it */
 	bool kept;			/* its memory is used again once it was joined */
 	struct thread *lender;		/* of a soft interrupt: the thread whose CPU it has */
@@ -242,10 +243,10 @@ static inline int begin_wait(void)
 
 static inline void end_wait(int before) { pthread_setcancelstate(before, NULL); }
 
-/* ---- kernel_lock.c: what a thread that sleeps has given up meanwhile. It isn't cancelled, either. ---- */
+/* ---- kernel_lock.c: what a thread that sleeps has given up meanwhile, and with its level its CPU. It isn't cancelled, either. ---- */
 
 struct sleep {
-	int cancels;
+	int cancels, level;
 	unsigned kernel_locks;
 };
 
@@ -272,10 +273,18 @@ void schedule_on(struct thread *me, void *cookie, struct cpu *cpu);
 int raise_level(struct thread *me, int level);
 void lower_level(struct thread *me, int level);
 
-/* Whether what waits on the thread's CPU is above the thread's level. The thread has the CPU. */
+extern bool is_strict;	/* kupaldiz_set_strict */
+
+/* The level above which soft interrupts run on the thread's CPU: in the kernel a read section is at IPL_SOFTSERIAL. */
+static inline int level_of_cpu(const struct thread *me)
+{
+	return !is_strict && me->depth > 0 && me->level < IPL_SOFTSERIAL ? IPL_SOFTSERIAL : me->level;
+}
+
+/* Whether what waits on the thread's CPU is above that level. The thread has the CPU. */
 static inline bool is_interrupted(const struct thread *me)
 {
-	return (__atomic_load_n(&me->cpu->pending, __ATOMIC_ACQUIRE) >> (me->level + 1)) != 0;
+	return (__atomic_load_n(&me->cpu->pending, __ATOMIC_ACQUIRE) >> (level_of_cpu(me) + 1)) != 0;
 }
 
 /* Where a call ends that leaves the thread with its CPU: soft interrupts that wait get it now. */

@@ -80,15 +80,14 @@ static void restore_level(struct thread *me, int level)
 		lower_level(me, me->level_before);
 }
 
-/* Waits for a lock that doesn't spin. Whoever has its CPU, as a soft interrupt has, gives it back meanwhile. */
+/* Waits for a lock that doesn't spin. */
 static void sleep_for_mutex(struct thread *me, kmutex_t *mutex)
 {
-	bool steps = me->holds > 0;
 	struct sleep sleep = begin_sleep(me);
-	if (steps)
+	if (me->softint)
 		yield_cpu(me);
 	lock_acquire(&mutex->mtx_word, me, report_wait);
-	if (steps)
+	if (me->softint)
 		reclaim_cpu(me);
 	end_sleep(me, sleep);
 }
@@ -124,7 +123,7 @@ bool has_mutex(const struct thread *me, const kmutex_t *mutex) { return lock_own
 
 void enter_mutex(struct thread *me, kmutex_t *mutex)
 {
-	if (STRICT() && me->softint && mutex->mtx_made == A_MUTEX && !mutex->mtx_spins && mutex->mtx_level == IPL_NONE)
+	if (is_strict && me->softint && mutex->mtx_made == A_MUTEX && !mutex->mtx_spins && mutex->mtx_level == IPL_NONE)
 		stop(me, "in a soft interrupt, and the lock is of IPL_NONE");
 	acquire_mutex(me, mutex);
 }

@@ -77,8 +77,9 @@ void require_sleepable(const struct thread *me)
 	stop_if(me, me->depth > 0, "inside a read section, entered%s", AT_PLACE(me->entered));
 	stop_if(me, me->softint, "in a soft interrupt");
 	stop_if(me, me->spins > 0, "with a spin lock");
-	stop_if(me, me->level > IPL_NONE && !LOWERS_LEVEL(), "at a raised level");
+	stop_if(me, me->level > IPL_NONE && (is_strict || me->called), "at a raised level");
 	stop_if(me, me->holds > (me->level > IPL_NONE), "with preemption disabled");
+	MAY_SLEEP();
 }
 
 void *grow_row(const struct thread *me, void *row, size_t size)

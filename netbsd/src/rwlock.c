@@ -58,9 +58,9 @@ void rw_enter(krwlock_t *rw, const krw_t how)
 		sleepq_unlock(sleepq_of(rw));
 		return;
 	}
-	bool steps = me->holds > 0, told = false;
+	bool told = false;
 	struct sleep sleep = begin_sleep(me);
-	if (steps)
+	if (me->softint)
 		yield_cpu(me);
 	struct timespec tells = patience();
 	rw->rw_wanted += how == RW_WRITER;
@@ -72,7 +72,7 @@ void rw_enter(krwlock_t *rw, const krw_t how)
 	}
 	rw->rw_wanted -= how == RW_WRITER;
 	sleepq_unlock(sleepq_of(rw));
-	if (steps)
+	if (me->softint)
 		reclaim_cpu(me);
 	end_sleep(me, sleep);
 }

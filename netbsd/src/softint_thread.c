@@ -114,13 +114,9 @@ void lend_cpu(struct thread *me)
 	}
 }
 
-/* A thread that has its CPU waits for a lock: others get the CPU meanwhile. */
+/* A handler waits for a lock: others get the CPU meanwhile. */
 void yield_cpu(struct thread *me)
 {
-	if (!me->softint) {
-		lock_release(&me->cpu->hold, me);
-		return;
-	}
 	note_waits(me, true, false);
 	return_cpu(me);
 }
@@ -128,10 +124,6 @@ void yield_cpu(struct thread *me)
 /* It has the lock, and goes on once it has the CPU again. */
 void reclaim_cpu(struct thread *me)
 {
-	if (!me->softint) {
-		lock_acquire(&me->cpu->hold, me, report_cpu_wait);
-		return;
-	}
 	note_waits(me, false, true);
 	lock_acquire(&me->cpu->hold, me, NULL);
 	note_waits(me, false, false);

@@ -215,7 +215,9 @@ void kupaldiz_bind(unsigned cpu)
 	stop_if(me, cpu >= KUPALDIZ_CPUS, "there is no CPU %u", cpu);
 	stop_if(me, is_bound(me), "the thread is bound to CPU %u", me->cpu->info.ci_index);
 	require_sleepable(me);
+	struct sleep sleep = begin_sleep(me);
 	bind_to(me, &cpus[cpu]);
+	end_sleep(me, sleep);
 }
 
 static void require_bound(const struct thread *me)

@@ -106,18 +106,22 @@ int workqueue_create(struct workqueue **made, const char *name, void (*body)(str
 		return ENOMEM;
 	struct workqueue *all = memory(me, sizeof(*all) + count * sizeof(all->queues[0]));
 	*all = (struct workqueue){.body = body, .arg = arg, .count = count};
-	for (unsigned at = 0; at < count; at++) {
+	struct sleep sleep = begin_sleep(me);
+	int answer = 0;
+	for (unsigned at = 0; at < count && answer == 0; at++) {
 		struct queue *queue = &all->queues[at];
 		queue->all = all;
 		queue->cpu = each ? &cpus[at] : NULL;
 		snprintf(queue->name, sizeof(queue->name), each ? "%s/%u" : "%s", name, at);
 		if (begin_queue(me, queue, level) != 0) {
 			end_queues(me, all, at);
-			return ENOMEM;
+			answer = ENOMEM;
 		}
 	}
-	*made = all;
-	return 0;
+	end_sleep(me, sleep);
+	if (answer == 0)
+		*made = all;
+	return answer;
 }
 
 void workqueue_destroy(struct workqueue *all)
@@ -153,10 +157,12 @@ void workqueue_enqueue(struct workqueue *all, struct work *work, struct cpu_info
 void workqueue_wait(struct workqueue *all, struct work *work)
 {
 	struct thread *me = sleepable(begin_call(__func__));
+	struct sleep sleep = begin_sleep(me);
 	for (struct queue *queue = all->queues; queue < &all->queues[all->count]; queue++) {
 		acquire_mutex(me, &queue->lock);
 		while (queue->thread != me && (is_enqueued(queue, work) || queue->current == work))
 			wait_for(me, &queue->changed, &queue->lock, -1);
 		release_mutex(me, &queue->lock);
 	}
+	end_sleep(me, sleep);
 }

@@ -15,7 +15,9 @@ static void run_on(struct thread *me, struct cpu *cpu, unsigned flags, xcfunc_t 
 	hold_cpu(me);
 	raise_level(me, level);
 	unhold_cpu(me);
+	me->called = level > IPL_NONE;
 	body(arg_a, arg_b);
+	me->called = false;
 	me->call = call;
 	me->place = place;
 	check_handler_return(me, "the function", level, locks, references);

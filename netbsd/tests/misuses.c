@@ -130,6 +130,7 @@ HANDLER(stay_raised, splnet())
 HANDLER(stay_holding, psref_acquire(&psref, &target, things))
 HANDLER(stay_long, sleep_for(20000000))
 HANDLER(exit_at_once, kthread_exit(0))
+HANDLER(perform_there, pserialize_perform(psz))
 static void function_stays_holding(void *arg, void *nobody) { (void)nobody; stay_holding(arg); }
 static void run_nothing(void *arg, void *nobody) { (void)nobody; nothing(arg); }
 
@@ -147,6 +148,10 @@ STOPS(beyond, kupaldiz_unbind(); kupaldiz_bind(KUPALDIZ_CPUS))
 STOPS("kupaldiz_bind: inside a read section, entered at PLACE, at PLACE", kupaldiz_unbind(); pserialize_read_enter(); kupaldiz_bind(1))
 STOPS("kupaldiz_unbind: inside a read section, entered at PLACE, at PLACE", pserialize_read_enter(); kupaldiz_unbind())
 STOPS("curlwp_bindx: the thread has passive references, at PLACE", acquire(); curlwp_bindx(0))
+/* A raised level is then the other CPU's. */
+STOPS("panic: it is bound, at PLACE",
+    int s = splnet(); kupaldiz_unbind(); kupaldiz_bind(1); EXPECT(cpu_number() == 1 && kpreempt_disabled()); splx(s); EXPECT(!kpreempt_disabled());
+    panic("it is bound"))
 
 /* ---- What threads, handlers and functions leave behind. ---- */
 
@@ -173,6 +178,8 @@ STOPS("xc_unicast: the function returned inside a read section",
 STOPS("xc_broadcast: the function returned with a lock, at PLACE", broadcast(0, stay_locked))
 STOPS("xc_broadcast: the function returned at a raised level, at PLACE", broadcast(0, stay_raised))
 STOPS("xc_broadcast: the function returned at a raised level, at PLACE", broadcast(XC_HIGHPRI, stay_raised))
+STOPS("pserialize_perform: at a raised level, at PLACE", broadcast(XC_HIGHPRI, perform_there))
+STOPS("panic: it has performed, at PLACE", broadcast(0, perform_there); panic("it has performed"))
 
 /* ---- pserialize(9). ---- */
 
@@ -292,7 +299,7 @@ STOPS("mutex_enter: the thread has the lock already, taken at PLACE, at PLACE", 
 STOPS("mutex_enter: with a spin lock, and this lock does not spin, at PLACE", mutex_enter(&spin); mutex_enter(&lock))
 STOPS("mutex_enter: with preemption disabled, at PLACE", kpreempt_disable(); mutex_enter(&lock))
 HANDLER(take_softly, mutex_enter(&lock))
-STOPS("mutex_enter: in a soft interrupt, and the lock is of IPL_NONE, at PLACE", as_softint(take_softly))
+STOPS("mutex_enter: in a soft interrupt, and the lock is of IPL_NONE, at PLACE", kupaldiz_set_strict(true); as_softint(take_softly))
 STOPS("mutex_exit: the thread does not have the lock, at PLACE", start(keep_lock); mutex_exit(&lock))
 STOPS("mutex_spin_exit: the thread does not have the lock, at PLACE", mutex_spin_exit(&spin))
 STOPS("mutex_destroy: the lock is held: thread \"misuses\" took it at PLACE, at PLACE", start(keep_lock); mutex_destroy(&lock))
@@ -335,9 +342,13 @@ STOPS("cv_destroy: a thread waits for count, at PLACE", start(wait_for_it); mute
 #define MORE	"cv_timedwait: the thread has more than this spin lock, at PLACE"
 STOPS(MORE, mutex_enter(&spin); pserialize_read_enter(); cv_timedwait(&cv, &spin, 1))
 STOPS(MORE, mutex_enter(&other_spin); mutex_enter(&spin); cv_timedwait(&cv, &spin, 1))
-STOPS(MORE, splsoftnet(); mutex_enter(&spin); cv_timedwait(&cv, &spin, 1))
+STOPS(MORE, kupaldiz_set_strict(true); splsoftnet(); mutex_enter(&spin); cv_timedwait(&cv, &spin, 1))
 STOPS(MORE, kpreempt_disable(); mutex_enter(&spin); cv_timedwait(&cv, &spin, 1))
 HANDLER(wait_spinning, mutex_enter(&spin); cv_timedwait(&cv, &spin, 1))
+STOPS(MORE, broadcast(XC_HIGHPRI, wait_spinning))
+STOPS("panic: the wait at a level ended, at PLACE",
+    int s = splsoftnet(); mutex_enter(&spin); cv_timedwait(&cv, &spin, 1); mutex_exit(&spin); EXPECT(splsoftclock() == IPL_SOFTNET); splx(s);
+    panic("the wait at a level ended"))
 STOPS("cv_timedwait: in a soft interrupt, at PLACE", as_softint(wait_spinning))
 STOPS("cv_timedwait: at a raised level, at PLACE", mutex_enter(&spin); splhigh(); cv_timedwait(&cv, &spin, 1))
 STOPS("cv_timedwait: at a raised level, at PLACE", mutex_enter(&softspin); splsoftserial(); cv_timedwait(&cv, &softspin, 1))
@@ -534,7 +545,7 @@ static void make_locked(void)
 HANDLER(make_call, make_locked(); made->body())
 static void in_section(void) { make_locked(); (void)pserialize_read_enter(); made->body(); }
 static void with_spin(void) { make_locked(); mutex_enter(&spin); made->body(); }
-static void at_level(void) { make_locked(); (void)splnet(); made->body(); }
+static void at_level(void) { kupaldiz_set_strict(true); make_locked(); (void)splnet(); made->body(); }
 static void without_preemption(void) { make_locked(); kpreempt_disable(); made->body(); }
 static void in_softint(void) { as_softint(make_call); }
 

@@ -403,14 +403,15 @@ static void test_kernel_lock(void)
 	EXPECT(KERNEL_LOCKED_P() && mutex_owned(softnet_lock));
 	SOFTNET_KERNEL_UNLOCK_UNLESS_NET_MPSAFE();
 	KERNEL_LOCK(1, NULL);
-	EXPECT(tsleep(&held, PRI_NONE | PCATCH, "names", 1) != 0 && KERNEL_LOCKED_P());
+	EXPECT(tsleep(&held, PWAIT | PCATCH, "names", 1) != 0 && KERNEL_LOCKED_P());
 	mutex_enter(softnet_lock);
-	(void)mtsleep(&held, PRI_NONE | PNORELOCK, "names", 1, softnet_lock);
+	(void)mtsleep(&held, PSOCK | PNORELOCK, "names", 1, softnet_lock);
 	EXPECT(!mutex_owned(softnet_lock) && KERNEL_LOCKED_P());
 	KERNEL_LOCK(1, NULL);
 	KERNEL_UNLOCK_ONE(NULL);
 	KERNEL_UNLOCK_LAST(NULL);
 	wakeup(&held);
+	EXPECT(PVM < PRIBIO && PRIBIO < PZERO && PZERO < PSOCK && ((PSOCK | PWAIT) & (PCATCH | PNORELOCK)) == 0);
 	SOFTNET_LOCK_UNLESS_NET_MPSAFE();
 	SOFTNET_UNLOCK_UNLESS_NET_MPSAFE();
 }

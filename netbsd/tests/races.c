@@ -1,6 +1,7 @@
 /*
  * races - what orders the threads that have references, as the detector of races sees it: the CPU that two share, the release that a destroy waits for, the
- * part of a count that a drain adds, and a section that a perform waits for. They wait for each other by steps that order nothing.
+ * part of a count that a drain adds, the sections that a perform waits for, and those that begin after it. They wait for each other by steps that order
+ * nothing.
  */
 #include "test.h"
 #include "things.h"
@@ -83,6 +84,36 @@ static void wait_for_references(void) { psref_target_destroy(&target, things); p
 static void wait_for_counts(void) { drain(&count); localcount_fini(&count); localcount_init(&count); }
 static void wait_for_sections(void) { pserialize_perform(psz); }
 
+static atomic_bool given;
+
+/* Enters sections until it sees what came after a perform. */
+static void *take_in_section(void *arg)
+{
+	bool found = false;
+	take_step();
+	while (!found) {
+		int s = pserialize_read_enter();
+		found = atomic_load_explicit(&given, memory_order_relaxed);
+		EXPECT(!found || used == 3);
+		pserialize_read_exit(s);
+	}
+	return arg;
+}
+
+/* What came before a perform comes before the sections that begin after it. */
+static void test_performed(void)
+{
+	pthread_t thread;
+	start_thread(&thread, take_in_section, NULL);
+	await_step(1);
+	used = 3;
+	pserialize_perform(psz);
+	atomic_store_explicit(&given, true, memory_order_relaxed);
+	end_thread(thread);
+	atomic_store_explicit(&given, false, memory_order_relaxed);
+	atomic_store_explicit(&step, 0, memory_order_relaxed);
+}
+
 int main(void)
 {
 	make_things(IPL_NONE);
@@ -92,6 +123,7 @@ int main(void)
 		test_waited(use_referred, wait_for_references);
 		test_waited(use_counted, wait_for_counts);
 		test_waited(use_read, wait_for_sections);
+		test_performed();
 	}
 	psref_target_destroy(&other, things);
 	end_things();

@@ -209,6 +209,106 @@ static void test_raised(void)
 	rw_destroy(&rw);
 }
 
+/* Releases its reference, once the level of its CPU is raised. */
+static void *release_beside(void *arg)
+{
+	struct psref passed;
+	kupaldiz_bind(2);
+	psref_acquire(&passed, &target, things);
+	atomic_store(&holds, true);
+	await_flag(arg);
+	psref_release(&passed, &target, things);
+	return NULL;
+}
+
+/* A thread sleeps at a raised level, as if_detach does: others have its CPU meanwhile. Afterwards it has the level again, which keeps soft interrupts off. */
+static void test_sleep_at_level(void)
+{
+	atomic_bool raised = false;
+	atomic_uint ran = 0;
+	void *cookie = softint_establish(SOFTINT_NET, count_run, &ran);
+	pthread_t holder;
+	atomic_store(&holds, false);
+	start_thread(&holder, release_beside, &raised);
+	await_flag(&holds);
+	int s = splnet();
+	atomic_store(&raised, true);
+	psref_target_destroy(&target, things);
+	EXPECT(kpreempt_disabled() && splnet() == IPL_NET);
+	softint_schedule(cookie);
+	EXPECT(atomic_load(&ran) == 0);
+	splx(s);
+	await_least(&ran, 1);
+	end_thread(holder);
+	softint_disestablish(cookie);
+	psref_target_init(&target, things);
+}
+
+/* Soft interrupts run at the end of a section whose thread keeps its CPU; inside it only by the stricter rules. */
+static void test_section(bool strict)
+{
+	atomic_uint ran = 0;
+	void *cookie = softint_establish(SOFTINT_SERIAL, count_run, &ran);
+	kupaldiz_set_strict(strict);
+	kpreempt_disable();
+	int s = pserialize_read_enter();
+	softint_schedule(cookie);
+	EXPECT(atomic_load(&ran) == strict);
+	pserialize_read_exit(s);
+	EXPECT(atomic_load(&ran) == 1);
+	kpreempt_enable();
+	softint_disestablish(cookie);
+}
+
+static void perform_raised(void)
+{
+	int s = splnet();
+	pserialize_perform(psz);
+	EXPECT(kpreempt_disabled());
+	splx(s);
+}
+
+static void perform_in_call(void *one, void *other) { (void)one; (void)other; perform_raised(); }
+static void do_nothing(void *one, void *other) { (void)one; (void)other; }
+
+/* A function of xcall(9) may do so, too, unless it has high priority; and so may the thread that has called for one with that. */
+static void test_sleep_in_call(void)
+{
+	xc_wait(xc_unicast(0, perform_in_call, NULL, NULL, kupaldiz_cpu(1)));
+	xc_wait(xc_unicast(XC_HIGHPRI, do_nothing, NULL, NULL, kupaldiz_cpu(1)));
+	perform_raised();
+}
+
+static void do_work(struct work *work, void *arg) { EXPECT(work != NULL); atomic_fetch_add((atomic_uint *)arg, 1); }
+
+/* The queue's own lock spins, at the level of a device. */
+static void test_works_at_level(void)
+{
+	struct workqueue *queue;
+	struct work work;
+	atomic_uint done = 0;
+	int s = splnet();
+	EXPECT(workqueue_create(&queue, "queue", do_work, &done, PRI_NONE, IPL_VM, WQ_MPSAFE) == 0);
+	workqueue_enqueue(queue, &work, NULL);
+	workqueue_wait(queue, &work);
+	EXPECT(atomic_load(&done) == 1 && kpreempt_disabled());
+	workqueue_destroy(queue);
+	EXPECT(splnet() == IPL_NET);
+	splx(s);
+}
+
+/* A handler takes a lock of IPL_NONE. */
+static void test_lock_of_none(void)
+{
+	atomic_uint done = 0;
+	void *cookie = softint_establish(SOFTINT_NET, handle_locked, &done);
+	mutex_destroy(&lock);
+	mutex_init(&lock, MUTEX_DEFAULT, IPL_NONE);
+	softint_schedule(cookie);
+	await_least(&done, 1);
+	softint_disestablish(cookie);
+}
+
 /* ---- Each call at whose end a thread that goes on with its CPU offers it to the soft interrupts that wait. ---- */
 
 static percpu_t *percpu;
@@ -293,14 +393,21 @@ int main(void)
 	make_things(IPL_SOFTNET);
 	mutex_init(&spin, MUTEX_DEFAULT, IPL_NET);
 	kupaldiz_bind(2);
-	test_runs(true);
 	test_runs(false);
-	test_own_level();
 	test_levels();
 	test_levels_apart();
-	test_blocked_inside();
 	test_raised();
+	test_sleep_at_level();
+	test_sleep_in_call();
+	test_works_at_level();
+	test_section(false);
+	test_section(true);
+	test_runs(true);
+	test_own_level();
+	test_blocked_inside();
 	test_offers();
+	kupaldiz_set_strict(false);
+	test_lock_of_none();
 	mutex_destroy(&spin);
 	end_things();
 	puts("soft interrupts ran where and when they may");

@@ -42,11 +42,15 @@ static void test_delays(void)
 	}
 }
 
-static void test_wait(bool pauses, int ticks)
+static int wait_for_cv(int ticks) { return cv_timedwait(&cv, &lock, ticks); }
+static int pause_for(int ticks) { return kpause("times", false, ticks, &lock); }
+static int sleep_on_lock(int ticks) { return mtsleep(&lock, PZERO, "times", ticks, &lock); }
+
+static void test_wait(int (*wait)(int ticks), int ticks)
 {
 	int64_t from = now();
 	mutex_enter(&lock);
-	EXPECT((pauses ? kpause("times", false, ticks, &lock) : cv_timedwait(&cv, &lock, ticks)) == EWOULDBLOCK && mutex_owned(&lock));
+	EXPECT(wait(ticks) == EWOULDBLOCK && mutex_owned(&lock));
 	mutex_exit(&lock);
 	require_gone(from, ticks * TICK);
 }
@@ -54,11 +58,12 @@ static void test_wait(bool pauses, int ticks)
 /* Of two that last longer than a second together one begins in one second and ends in the next. */
 static void test_waits(void)
 {
-	test_wait(false, 1);
-	test_wait(false, 60);
-	test_wait(false, 60);
-	test_wait(true, 1);
-	test_wait(true, 101);
+	test_wait(wait_for_cv, 1);
+	test_wait(wait_for_cv, 60);
+	test_wait(wait_for_cv, 60);
+	test_wait(pause_for, 1);
+	test_wait(pause_for, 101);
+	test_wait(sleep_on_lock, 1);
 }
 
 static void catch(int signal) { EXPECT(signal == SIGUSR1); }

@@ -163,26 +163,41 @@ static void establish(struct actor *actor)
 	EXPECT(interrupt->cookie != NULL);
 }
 
-/* It runs after each time that it was scheduled: before the call returns in a section, if it waits for no lock. */
+/* It runs after each time that it was scheduled: before the call returns with preemption disabled, if it waits for no lock. */
 static void schedule(struct actor *actor)
 {
 	struct interrupt *interrupt = &actor->interrupt;
 	unsigned before = atomic_load(&interrupt->runs);
-	bool inside = below(actor, 2) == 0;
-	int s = inside ? pserialize_read_enter() : 0;
+	bool has_cpu = below(actor, 2) == 0;
+	if (has_cpu)
+		kpreempt_disable();
 	softint_schedule(interrupt->cookie);
-	EXPECT(!inside || interrupt->locks || atomic_load(&interrupt->runs) > before);
-	if (inside)
-		pserialize_read_exit(s);
+	EXPECT(!has_cpu || interrupt->locks || atomic_load(&interrupt->runs) > before);
+	if (has_cpu)
+		kpreempt_enable();
 	await_least(&interrupt->runs, before + 1);
 }
 
-/* Its level keeps it off. */
+/* A section keeps it off. */
+static void schedule_inside(struct actor *actor)
+{
+	struct interrupt *interrupt = &actor->interrupt;
+	unsigned before = atomic_load(&interrupt->runs);
+	int s = pserialize_read_enter();
+	softint_schedule(interrupt->cookie);
+	EXPECT(atomic_load(&interrupt->runs) == before);
+	pserialize_read_exit(s);
+	await_least(&interrupt->runs, before + 1);
+}
+
+/* Its level keeps it off, also after a sleep, for which the thread gave the level and its CPU up. */
 static void schedule_raised(struct actor *actor)
 {
 	struct interrupt *interrupt = &actor->interrupt;
 	unsigned before = atomic_load(&interrupt->runs);
 	int s = splraiseipl(makeiplcookie(interrupt->level));
+	if (below(actor, 2) == 0)
+		xc_barrier(0);
 	softint_schedule(interrupt->cookie);
 	softint_schedule(interrupt->cookie);
 	EXPECT(atomic_load(&interrupt->runs) == before);
@@ -279,7 +294,7 @@ static void end_actor(struct actor *actor)
 static void *act(void *of)
 {
 	static void (*const deeds[])(struct actor *) = {set_timer, set_timer, set_timer, halt_timer, stop_timer, await_timer, await_timer, schedule, schedule,
-	    schedule_raised, disestablish, enqueue, enqueue, enqueue, enqueue, wait_job};
+	    schedule_inside, schedule_raised, disestablish, enqueue, enqueue, enqueue, enqueue, wait_job};
 	struct actor *actor = of;
 	kupaldiz_bind(actor->number);
 	begin_actor(actor);

@@ -32,8 +32,8 @@ void kupaldiz_failed_with(const char *place, const char *text, const char *forma
 #define KDASSERT(condition)		KASSERT(condition)
 #define KDASSERTMSG(condition, ...)	KASSERTMSG(condition, __VA_ARGS__)
 
-/* ASSERT_SLEEPABLE, kupaldiz_assert_sleepable - stop where the thread mustn't sleep: inside a read section, in a soft interrupt, with a spin lock, at a
- * raised level, and with preemption disabled. */
+/* ASSERT_SLEEPABLE, kupaldiz_assert_sleepable - stop where the thread mustn't sleep: inside a read section, in a soft interrupt, with a spin lock, and
+ * with preemption disabled. */
 void kupaldiz_assert_sleepable(void);
 #define ASSERT_SLEEPABLE()	(kupaldiz_at(KUPALDIZ_HERE), kupaldiz_assert_sleepable())
 
@@ -44,6 +44,18 @@ int kupaldiz_hz(void);
 /* kupaldiz_set_hz - let a second have so many ticks, so that waits and callouts of a test take less time. It is for the begin of a program, before another call
  * that counts ticks. Stops where the number isn't from 1 to 1,000,000. */
 void kupaldiz_set_hz(int number);
+
+/*
+ * kupaldiz_set_strict - have stricter rules than the kernel's, or again the kernel's, which hold at first
+ *
+ * - By the kernel's rules a thread may sleep at a raised level: it gives the level and its CPU up meanwhile, and has both again afterwards. By the stricter ones
+ *   a call that may sleep stops there.
+ * - By the kernel's rules a soft interrupt may wait for a mutex of IPL_NONE. By the stricter ones mutex_enter of it stops there.
+ * - By the kernel's rules a read section is at IPL_SOFTSERIAL, so no soft interrupt of its CPU runs inside. By the stricter ones they run.
+ *
+ * It is for a time when no thread is in a section or at a raised level.
+ */
+void kupaldiz_set_strict(bool strict);
 
 /* Whether the kernel still starts: never. */
 static const int cold = 0;
@@ -62,6 +74,9 @@ void delay(unsigned microseconds);
 /* kpause - sleep for so many ticks, without the lock meanwhile, which may be NULL. Returns EWOULDBLOCK. In the explorer a signal may end it if it is
  * interruptible, and it returns EINTR. Stops where the thread mustn't sleep. */
 int kpause(const char *name, bool interruptible, int ticks, kmutex_t *mutex);
+
+/* The priorities of tsleep(9), which change nothing. PRI_NONE is none of them: it has the bits of the next two. */
+enum { PVM = 4, PRIBIO = 16, PZERO = 22, PSOCK = 24, PWAIT = 32 };
 
 /* PCATCH, PNORELOCK - of a priority: a signal may end the sleep, as in the explorer; the lock isn't taken again. */
 #define PCATCH		0x100

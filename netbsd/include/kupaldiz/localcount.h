@@ -64,7 +64,7 @@ void localcount_acquire(struct localcount *lc);
  *
  * It sleeps only if a drain waits for this reference: it then takes the interlock as mutex_enter does, and wakes the drain by `cv`. So it may be called:
  * - in a thread, and at a raised level;
- * - in a soft interrupt, also where the interlock was made with IPL_NONE: mutex_enter of that interlock would stop there;
+ * - in a soft interrupt, also where the interlock was made with IPL_NONE, by any rules;
  * - inside a read section, with a spin lock and with preemption disabled only if no drain can wait. It stops if one waits.
  *
  * Stops also where the caller has the interlock; where the count isn't live; where no reference to it is held; and where `cv` or `interlock` are

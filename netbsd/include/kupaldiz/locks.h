@@ -39,8 +39,8 @@ void mutex_destroy(kmutex_t *mutex);
 /*
  * mutex_enter - take a lock, and wait for it
  *
- * Stops where this thread has it; and, of an adaptive lock, inside a read section, with a spin lock or with preemption disabled, and in
- * a soft interrupt where the lock's level is IPL_NONE.
+ * Stops where this thread has it; and, of an adaptive lock, inside a read section, with a spin lock or with preemption disabled, and by the stricter rules of
+ * kupaldiz_set_strict in a soft interrupt where the lock's level is IPL_NONE.
  */
 void mutex_enter(kmutex_t *mutex);
 

@@ -50,8 +50,8 @@ void pserialize_read_exit(int s);
  * It may sleep. Any number of threads may call it at once, also with one `psz`. The lock that the page asks for is for the list; no call looks for it,
  * and an adaptive mutex may be held. It need not wait for sections that begin later, and doesn't wait for passive references, local references
  * or callouts.
- * Stops where the thread mustn't sleep: inside a read section, in a soft interrupt, with a spin lock, at a raised level, and with preemption
- * disabled.
+ * What the thread did before comes before what is done in sections that begin once the call has returned.
+ * Stops where the thread mustn't sleep: inside a read section, in a soft interrupt, with a spin lock, and with preemption disabled.
  */
 void pserialize_perform(pserialize_t psz);
 

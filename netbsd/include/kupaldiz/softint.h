@@ -3,8 +3,8 @@
  *
  * Each CPU has a thread for the soft interrupts of each level. It runs a handler on the CPU where the handler was scheduled:
  * - At once, where no thread of that CPU is in a read section, has a spin lock, is at a raised level or has preemption disabled.
- * - Else once the thread that has the CPU gives it up. Or before that, when this thread ends one of these calls, inside its section too, at a level below
- *   the handler's: pserialize_read_enter, pserialize_read_exit, psref_acquire, psref_copy, psref_held, psref_release, localcount_acquire,
+ * - Else once the thread that has the CPU gives it up. Or before that, when this thread ends one of these calls, at a level below the handler's, and in no read
+ *   section, which is at IPL_SOFTSERIAL: pserialize_read_enter, pserialize_read_exit, psref_acquire, psref_copy, psref_held, psref_release, localcount_acquire,
  *   localcount_release, mutex_exit, mutex_spin_exit, cv_signal, cv_broadcast, splx, kpreempt_enable, percpu_putref, softint_schedule. The call then waits
  *   for the CPU. It returns when the handlers have ended, or when one of them waits for a lock.
  *
