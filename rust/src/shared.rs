@@ -461,8 +461,10 @@ impl<T> Drop for Shared<T> {
         // have a share of the registry; all are gone, so no reference to a value lives. Its
         // row has gone with `rows`, so each is taken once.
         let values: Vec<T> = left.into_iter().map(|carried| unsafe { carried.take() }).collect();
-        // The youngest first. A value whose drop panics doesn't keep the others from theirs.
-        drop(values);
+        // The youngest first.
+        let mut panic = FirstPanic::default();
+        values.into_iter().for_each(|value| panic.run(|| drop(value)));
+        panic.go_on();
     }
 }
 
