@@ -59,7 +59,9 @@ impl<U> Tasks<U> {
     /// nothing half changed.
     #[inline]
     pub fn wake(&self, is_meant: impl Fn(u64, &U) -> bool) {
-        self.meant(is_meant).wake();
+        if self.are_any() {
+            Meant(self.take(is_meant)).wake();
+        }
     }
 
     /// Takes those out that are meant, by their keys and what they wait for. The rest keep their
