@@ -12,34 +12,24 @@ use kupaldiz::{
 };
 use std::collections::BTreeMap;
 use std::fmt::Display;
-use std::process::ExitCode;
+use std::process;
+use std::str::FromStr;
 
-/// Why a command hasn't done its work.
-pub enum Stop {
-    /// The line that says so. The script goes on.
-    Line(String),
-    /// This program can't make it.
-    Program(String),
+/// The line that a command prints. The error is that of one that has done nothing.
+type Line = Result<String, String>;
+
+/// This program can't go on.
+fn stop(why: impl Display) -> ! {
+    eprintln!("{why}");
+    process::exit(3)
 }
 
-type Line = Result<String, Stop>;
-
-impl From<&str> for Stop {
-    fn from(line: &str) -> Stop {
-        Stop::Line(line.to_string())
-    }
-}
-
-fn refused(error: impl Into<RegistryError>) -> Stop {
-    Stop::Line(match error.into() {
+fn refused(error: impl Into<RegistryError>) -> String {
+    match error.into() {
         RegistryError::StillHeld(holder) => format!("refused StillHeld {}", stage(holder)),
         RegistryError::Waiting(cpu) => format!("refused Waiting cpu {cpu}"),
         other => format!("refused {other:?}"),
-    })
-}
-
-fn unfit(why: impl Display) -> Stop {
-    Stop::Program(why.to_string())
+    }
 }
 
 fn stage(holder: Holder) -> String {
@@ -56,11 +46,11 @@ fn at(what: &str, entry: Entry) -> String {
 }
 
 /// What a table has under a label.
-fn labelled<'a, V>(table: &'a BTreeMap<String, V>, label: &str) -> Result<&'a V, Stop> {
+fn labelled<'a, V>(table: &'a BTreeMap<String, V>, label: &str) -> Result<&'a V, String> {
     table.get(label).ok_or_else(|| "no label".into())
 }
 
-fn is_vacant<V>(table: &BTreeMap<String, V>, label: &str) -> Result<(), Stop> {
+fn is_vacant<V>(table: &BTreeMap<String, V>, label: &str) -> Result<(), String> {
     labelled(table, label).map_or(Ok(()), |_| Err("label taken".into()))
 }
 
@@ -101,7 +91,7 @@ impl<'cpu> Acting<'cpu> {
         Ok(line)
     }
 
-    fn last(&self) -> Result<&ReadGuard<'cpu, u64>, Stop> {
+    fn last(&self) -> Result<&ReadGuard<'cpu, u64>, String> {
         match self.nestings.first() {
             Some(Ok(guard)) => Ok(guard),
             _ => Err("refused NothingFound".into()),
@@ -123,7 +113,7 @@ struct Script<'cpu> {
 /// References.
 impl<'cpu> Script<'cpu> {
     /// The passive reference of a label, on this CPU.
-    fn passive(&self, cpu: usize, label: &str) -> Result<&PassiveRef<'cpu, u64>, Stop> {
+    fn passive(&self, cpu: usize, label: &str) -> Result<&PassiveRef<'cpu, u64>, String> {
         let held = labelled(&self.passives, label)?;
         let is_own = usize::from(PassiveRef::cpu(held).id()) == cpu;
         is_own.then_some(held).ok_or_else(|| "refused WrongCpu".into())
@@ -188,7 +178,7 @@ impl<'cpu> Script<'cpu> {
 /// Changes, and the work on what is retired.
 impl Script<'_> {
     /// What the language says of an attach up to whether a slot is vacant.
-    fn may_attach(&self, cpu: usize, key: (Kind, Name), has_driver: bool) -> Result<(), Stop> {
+    fn may_attach(&self, cpu: usize, key: (Kind, Name), has_driver: bool) -> Result<(), String> {
         let is_full = self.live.len() + self.retired.len() == self.registry.settings().slots.into();
         Err(refused(if self.cpus[cpu].is_inside() {
             RegistryError::Inside
@@ -220,14 +210,14 @@ impl Script<'_> {
         let driver = LocalRef::entry(labelled(&self.locals, label)?);
         self.may_attach(cpu, (Kind::Iface, name), driver.kind == Kind::Driver)?;
         if self.live.get(&(Kind::Driver, driver.name)) != Some(&driver) {
-            return Err(unfit(format!("an interface on {driver}, which is retired")));
+            stop(format!("an interface on {driver}, which is retired"));
         }
         let spent = RegistryError::SectionsSpent;
         let others = self.cpus[self.acting.len()..].iter();
         let (by, made) = others
             .map(|cpu| (cpu, cpu.attach_iface(driver.name, name, value).map_err(|no| no.into())))
             .find(|(_, made)| *made != Err(spent))
-            .ok_or_else(|| unfit(spent))?;
+            .unwrap_or_else(|| stop(spent));
         let entry = made.map_err(|no: RegistryError| refused(no))?;
         self.uncount(by.id().into(), label)?;
         self.attached(entry)
@@ -242,7 +232,7 @@ impl Script<'_> {
     }
 
     /// One turn: the slot that it freed, or what it met.
-    fn turn(&mut self, number: u64) -> Result<Result<u8, DestroyError>, Stop> {
+    fn turn(&mut self, number: u64) -> Result<Result<u8, DestroyError>, String> {
         let retired = self.retired.remove(&number).ok_or("refused NotRetired")?;
         Ok(retired.try_destroy().map(|freed| freed.entry.slot).map_err(|held| {
             self.retired.insert(number, held.given);
@@ -290,12 +280,12 @@ impl Script<'_> {
 }
 
 /// A word as a number, a CPU or a name.
-fn read<W: std::str::FromStr>(word: &str) -> Result<W, Stop> {
-    word.parse().map_err(|_| unfit(format!("not what the command takes: {word}")))
+fn read<W: FromStr>(word: &str) -> W {
+    word.parse().unwrap_or_else(|_| stop(format!("not what the command takes: {word}")))
 }
 
-fn key(kind: &str, name: &str) -> Result<(Kind, Name), Stop> {
-    Ok((if kind == "driver" { Kind::Driver } else { Kind::Iface }, read(name)?))
+fn key(kind: &str, name: &str) -> (Kind, Name) {
+    (if kind == "driver" { Kind::Driver } else { Kind::Iface }, read(name))
 }
 
 impl Script<'_> {
@@ -303,61 +293,53 @@ impl Script<'_> {
         match *words {
             ["domain" | "limits", ..] => Ok(words.join(" ")),
             ["attach", cpu, kind, name, value] => {
-                self.attach(read(cpu)?, key(kind, name)?, read(value)?)
+                self.attach(read(cpu), key(kind, name), read(value))
             }
             ["plug", cpu, name, value, label] => {
-                self.plug(read(cpu)?, read(name)?, read(value)?, label)
+                self.plug(read(cpu), read(name), read(value), label)
             }
-            ["detach", cpu, kind, name] => self.detach(read(cpu)?, key(kind, name)?),
-            ["enter", cpu] => self.acting[read::<usize>(cpu)?].enter(),
-            ["exit", cpu] => self.acting[read::<usize>(cpu)?].exit(),
-            ["find", cpu, kind, name] => self.acting[read::<usize>(cpu)?].find(key(kind, name)?),
-            ["ref", cpu, label] => self.refer(read(cpu)?, label),
-            ["copy", cpu, from, to] => self.copy(read(cpu)?, from, to),
-            ["held", cpu, label] => self.held(read(cpu)?, label),
-            ["read", cpu, label] => self.read(read(cpu)?, label),
-            ["drop", cpu, label] => self.release(read(cpu)?, label),
-            ["count", cpu, label] => self.count(read(cpu)?, label),
+            ["detach", cpu, kind, name] => self.detach(read(cpu), key(kind, name)),
+            ["enter", cpu] => self.acting[read::<usize>(cpu)].enter(),
+            ["exit", cpu] => self.acting[read::<usize>(cpu)].exit(),
+            ["find", cpu, kind, name] => self.acting[read::<usize>(cpu)].find(key(kind, name)),
+            ["ref", cpu, label] => self.refer(read(cpu), label),
+            ["copy", cpu, from, to] => self.copy(read(cpu), from, to),
+            ["held", cpu, label] => self.held(read(cpu), label),
+            ["read", cpu, label] => self.read(read(cpu), label),
+            ["drop", cpu, label] => self.release(read(cpu), label),
+            ["count", cpu, label] => self.count(read(cpu), label),
             ["peek", label] => self.peek(label),
-            ["uncount", cpu, label] => self.uncount(read(cpu)?, label),
-            ["advance", number] => self.advance(read(number)?),
-            ["destroy", cpu, number, turns] => {
-                self.destroy(read(cpu)?, read(number)?, read(turns)?)
-            }
-            ["perform", cpu, _] => self.perform(read(cpu)?),
+            ["uncount", cpu, label] => self.uncount(read(cpu), label),
+            ["advance", number] => self.advance(read(number)),
+            ["destroy", cpu, number, turns] => self.destroy(read(cpu), read(number), read(turns)),
+            ["perform", cpu, _] => self.perform(read(cpu)),
             ["audit"] => self.audit(),
-            _ => Err(unfit(format!("no command: {}", words.join(" ")))),
+            _ => stop(format!("no command: {}", words.join(" "))),
         }
     }
 }
 
 /// How many CPUs a script has, and its registry's settings.
-fn settings(commands: &[Vec<&str>]) -> Result<(usize, Settings), Stop> {
+fn settings(commands: &[Vec<&str>]) -> (usize, Settings) {
     let (cpus, slots) = match commands.first().map(Vec::as_slice) {
-        Some(["domain", cpus, slots]) => (read(cpus)?, read(slots)?),
-        _ => return Err(unfit("no domain")),
+        Some(["domain", cpus, slots]) => (read(cpus), read(slots)),
+        _ => stop("no domain"),
     };
-    let settings = Settings::new(LIMITS.cpus as u8, slots);
-    Ok((
-        cpus,
-        match commands.get(1).map(Vec::as_slice) {
-            Some(["limits", changes, sections, passives, locals]) => settings
-                .changes(read(changes)?)
-                .sections(read(sections)?)
-                .passives(read(passives)?)
-                .locals(read(locals)?),
-            _ => settings.changes(1000).sections(1000).passives(100).locals(100),
-        },
-    ))
+    let limits = match commands.get(1).map(Vec::as_slice) {
+        Some(["limits", limits @ ..]) => limits.iter().map(|limit| read(limit)).collect(),
+        _ => vec![1000, 1000, 100, 100],
+    };
+    let settings = Settings::new(LIMITS.cpus as u8, slots).changes(limits[0]).sections(limits[1]);
+    (cpus, settings.passives(limits[2]).locals(limits[3]))
 }
 
 /// Runs a script, and hands on each line of its report.
-pub fn run(text: &str, mut print: impl FnMut(&str)) -> Result<(), Stop> {
+pub fn run(text: &str, mut print: impl FnMut(&str)) {
     let lines = text.lines().map(|line| line.split_whitespace().collect::<Vec<_>>());
     let commands: Vec<_> =
         lines.filter(|words| words.first().map_or(false, |word| !word.starts_with('#'))).collect();
-    let (count, settings) = settings(&commands)?;
-    let registry = Registry::open(settings).map_err(unfit)?;
+    let (count, settings) = settings(&commands);
+    let registry = Registry::open(settings).unwrap_or_else(|error| stop(error));
     let cpus = registry.cpus();
     let mut script = Script {
         registry: &registry,
@@ -369,22 +351,12 @@ pub fn run(text: &str, mut print: impl FnMut(&str)) -> Result<(), Stop> {
         retired: BTreeMap::new(),
     };
     for words in &commands {
-        match script.command(words) {
-            Ok(line) | Err(Stop::Line(line)) => print(&line),
-            Err(stop) => return Err(stop),
-        }
+        print(&script.command(words).unwrap_or_else(|refusal| refusal));
     }
-    Ok(())
 }
 
-fn main() -> ExitCode {
-    let path = std::env::args().nth(1).unwrap_or_default();
-    let text = std::fs::read_to_string(&path).map_err(|error| unfit(format!("{path}: {error}")));
-    match text.and_then(|text| run(&text, |line| println!("{line}"))) {
-        Ok(()) => ExitCode::SUCCESS,
-        Err(Stop::Program(why) | Stop::Line(why)) => {
-            eprintln!("{why}");
-            ExitCode::from(3)
-        }
-    }
+fn main() {
+    let path = std::env::args().nth(1).unwrap_or_else(|| stop("usage: script PATH"));
+    let text = std::fs::read_to_string(&path);
+    run(&text.unwrap_or_else(|error| stop(format!("{path}: {error}"))), |line| println!("{line}"));
 }

@@ -371,6 +371,7 @@ impl<'cpu> Bench<'cpu> {
         for (found, (kind, name)) in found.iter().zip(&keys) {
             let expected = self.live(*kind, name).map(|one| (one.entry, one.label));
             assert_eq!(found.as_ref().map(|found| (Found::entry(found), found.label)), expected);
+            assert_eq!(section.contains((*kind, name)), expected.is_some());
         }
         let first = found.iter().flatten().next();
         let passive =

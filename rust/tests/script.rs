@@ -24,9 +24,7 @@ fn each_session_has_its_report() {
         let (commands, report): (Vec<&str>, Vec<&str>) =
             columns.into_iter().map(|(left, right)| (left, right.trim())).unzip();
         let mut lines = Vec::new();
-        script::run(&commands.join("\n"), |line| lines.push(line.to_string()))
-            .ok()
-            .expect("a session");
+        script::run(&commands.join("\n"), |line| lines.push(line.to_string()));
         assert_eq!(lines, report);
     }
 }
