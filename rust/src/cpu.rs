@@ -190,7 +190,10 @@ impl<T> Cpu<T> {
     #[inline]
     pub(crate) fn let_go(&self, slots: &[usize]) -> bool {
         if let Some(owed) = &mut *self.owed.borrow_mut() {
-            owed.extend(slots);
+            // A task that is noted after this looks once more.
+            if self.tasks().are_any() {
+                owed.extend(slots);
+            }
             return false;
         }
         if !slots.is_empty() {

@@ -417,7 +417,7 @@ impl<T> Shared<T> {
     #[cold]
     fn give_up_dropped(&self, keeper: &mut ffi::Keeper, slot: usize) -> bool {
         let dropped = self.baskets.take(slot);
-        let had_any = !dropped.is_empty();
+        let had_any = dropped.len() > 0;
         for mut local in dropped {
             // SAFETY: the caller holds the interlock of this registry. All references in its
             // baskets are of this registry.

@@ -60,7 +60,7 @@ impl<U> Tasks<U> {
     #[inline]
     pub fn wake(&self, is_meant: impl Fn(u64, &U) -> bool) {
         if self.are_any() {
-            Meant(self.take(is_meant)).wake();
+            Meant(self.take(is_meant)).wake_all();
         }
     }
 
@@ -100,6 +100,13 @@ pub struct Meant(Vec<Waker>);
 impl Meant {
     #[inline]
     pub fn wake(self) {
+        if !self.0.is_empty() {
+            self.wake_all();
+        }
+    }
+
+    #[cold]
+    fn wake_all(self) {
         self.0.into_iter().for_each(|waker| quietly(|| waker.wake()));
     }
 
