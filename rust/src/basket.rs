@@ -7,15 +7,50 @@
 
 use crate::ffi;
 use crate::lock::{locked, Mutex};
+use std::iter::Chain;
 use std::mem;
+use std::option;
 use std::sync::atomic::{AtomicU64, Ordering};
+use std::vec;
 
 /// What was dropped that is to the entry in a slot. While a reference lies here the entry keeps its
 /// slot; the closing of the registry empties it. On cache lines of its own.
 #[derive(Default)]
 #[repr(align(128))]
-struct Basket {
-    dropped: Mutex<Vec<ffi::Local>>,
+struct Basket(Mutex<Dropped>);
+
+/// The first needs no memory.
+#[derive(Default)]
+pub struct Dropped {
+    first: Option<ffi::Local>,
+    rest: Vec<ffi::Local>,
+}
+
+impl Dropped {
+    /// Lays one more in, or gives it back where there is no memory for it.
+    fn lay(&mut self, local: ffi::Local) -> Result<(), ffi::Local> {
+        if self.first.is_none() {
+            self.first = Some(local);
+        } else if self.rest.try_reserve(1).is_ok() {
+            self.rest.push(local);
+        } else {
+            return Err(local);
+        }
+        Ok(())
+    }
+
+    pub fn len(&self) -> usize {
+        usize::from(self.first.is_some()) + self.rest.len()
+    }
+}
+
+impl IntoIterator for Dropped {
+    type Item = ffi::Local;
+    type IntoIter = Chain<option::IntoIter<ffi::Local>, vec::IntoIter<ffi::Local>>;
+
+    fn into_iter(self) -> Self::IntoIter {
+        self.first.into_iter().chain(self.rest)
+    }
 }
 
 /// A bit for each slot whose basket has something in it, or had a little while ago. On cache lines
@@ -41,17 +76,14 @@ impl Baskets {
     }
 
     /// Lays a reference in. Where there is no memory for it, it is held for good: nobody is misled.
-    pub fn lay(&self, mut local: ffi::Local) {
+    pub fn lay(&self, local: ffi::Local) {
         let slot = local.entry.slot as usize;
-        let mut dropped = locked(&self.of_slot[slot].dropped);
-        if dropped.try_reserve(1).is_err() {
+        let mut dropped = locked(&self.of_slot[slot].0);
+        if let Err(mut local) = dropped.lay(local) {
             drop(dropped);
             // SAFETY: this is the only use of the reference's handle. What it counts stays counted.
             unsafe { ffi::kupaldiz_forget_local(&mut local) };
-            return;
-        }
-        dropped.push(local);
-        if dropped.len() == 1 {
+        } else if dropped.len() == 1 {
             // As `Tasks::poll` needs it.
             self.filled.words[slot / 64].fetch_or(1 << (slot % 64), Ordering::SeqCst);
         }
@@ -59,8 +91,8 @@ impl Baskets {
 
     /// Takes all out that are to the entry in this slot.
     #[cold]
-    pub fn take(&self, slot: usize) -> Vec<ffi::Local> {
-        let mut dropped = locked(&self.of_slot[slot].dropped);
+    pub fn take(&self, slot: usize) -> Dropped {
+        let mut dropped = locked(&self.of_slot[slot].0);
         self.filled.words[slot / 64].fetch_and(!(1 << (slot % 64)), Ordering::Relaxed);
         mem::take(&mut *dropped)
     }
@@ -82,7 +114,7 @@ impl Baskets {
     }
 
     pub fn total(&self) -> usize {
-        self.slots().map(|slot| locked(&self.of_slot[slot].dropped).len()).sum()
+        self.slots().map(|slot| locked(&self.of_slot[slot].0).len()).sum()
     }
 }
 

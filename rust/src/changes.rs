@@ -12,6 +12,9 @@ use crate::Key;
 use std::panic::Location;
 use std::sync::Arc;
 
+/// What an attach returns, or a replacement.
+type Changed<T, R = Entry> = Result<R, Refused<AttachError, T>>;
+
 /// Changes. An attach and a detach drop no `T`, so a caller may hold a lock that the drop of a `T`
 /// takes. They [may wake](crate#your-code-in-a-call) tasks. Each is on a CPU that the crate
 /// chooses, and fails first with `NoCpu`, if [there is none](Registry::cpus); a [`Cpu`] has the
@@ -28,9 +31,8 @@ impl<T> Registry<T> {
     ///
     /// `NeedsDriver` for an interface's key, `BadName`, `Inside`, `NameTaken`, `NoSlot`,
     /// `HistoryFull`. The value is returned.
-    pub fn attach(&self, key: impl Into<Key>, value: T) -> Result<Entry, Refused<AttachError, T>> {
-        let key = key.into();
-        self.changing(value, |cpu, value| cpu.attach(key, value))
+    pub fn attach(&self, key: impl Into<Key>, value: T) -> Changed<T> {
+        self.change(&New::plain(key), value).map(Made::alone)
     }
 
     /// Attaches an interface that carries this value, as [`attach`](Registry::attach) does, on the
@@ -63,12 +65,8 @@ impl<T> Registry<T> {
         driver: impl Into<Key>,
         name: impl Into<Key>,
         value: T,
-    ) -> Result<Entry, Refused<AttachError, T>> {
-        let (driver, name, at) = (driver.into(), name.into(), Location::caller());
-        let made = self.changing(value, |cpu, value| {
-            New::of(cpu, name, Some(driver), false, at).change(value)
-        });
-        Ok(made?.0)
+    ) -> Changed<T> {
+        self.change(&New::iface(driver, name), value).map(Made::alone)
     }
 
     /// Puts another value in the place of what the entry of this name carries: another entry, with
@@ -91,13 +89,8 @@ impl<T> Registry<T> {
     ///
     /// `NeedsDriver` for an interface's key, `BadName`, `Inside`, `NotFound`, `NoSlot`,
     /// `HistoryFull`. The value is returned.
-    pub fn replace(
-        &self,
-        key: impl Into<Key>,
-        value: T,
-    ) -> Result<(Entry, Retired<T>), Refused<AttachError, T>> {
-        let key = key.into();
-        self.changing(value, |cpu, value| cpu.replace(key, value))
+    pub fn replace(&self, key: impl Into<Key>, value: T) -> Changed<T, (Entry, Retired<T>)> {
+        self.change(&New::plain(key).in_place(), value).map(Made::both)
     }
 
     /// Replaces what the live interface with this name carries, as [`replace`](Registry::replace)
@@ -113,11 +106,8 @@ impl<T> Registry<T> {
         driver: impl Into<Key>,
         name: impl Into<Key>,
         value: T,
-    ) -> Result<(Entry, Retired<T>), Refused<AttachError, T>> {
-        let (driver, name, at) = (driver.into(), name.into(), Location::caller());
-        let made = self
-            .changing(value, |cpu, value| New::of(cpu, name, Some(driver), true, at).change(value));
-        made.map(Made::both)
+    ) -> Changed<T, (Entry, Retired<T>)> {
+        self.change(&New::iface(driver, name).in_place(), value).map(Made::both)
     }
 
     /// Detaches the live entry of this name. Lookups that begin after this call has returned don't
@@ -153,13 +143,9 @@ impl<T> Registry<T> {
     }
 
     /// Makes a change on a CPU that the crate chooses.
-    fn changing<R>(
-        &self,
-        value: T,
-        change: impl FnOnce(&Cpu<T>, T) -> Result<R, Refused<AttachError, T>>,
-    ) -> Result<R, Refused<AttachError, T>> {
+    fn change(&self, new: &New, value: T) -> Changed<T, Made<T>> {
         let (mut given, mut made) = (Some(value), None);
-        self.seats.with(|cpu| made = given.take().map(|value| change(cpu, value)));
+        self.seats.with(|cpu| made = given.take().map(|value| cpu.change(new, value)));
         let refused = |given| Err(Refused { refusal: AttachError::NoCpu, given });
         made.unwrap_or_else(|| refused(given.take().expect("no change was made")))
     }
@@ -169,9 +155,8 @@ impl<T> Registry<T> {
 /// errors but `NoCpu`.
 impl<T> Cpu<T> {
     /// As [`Registry::attach`].
-    #[track_caller]
-    pub fn attach(&self, key: impl Into<Key>, value: T) -> Result<Entry, Refused<AttachError, T>> {
-        Ok(New::of(self, key.into(), None, false, Location::caller()).change(value)?.0)
+    pub fn attach(&self, key: impl Into<Key>, value: T) -> Changed<T> {
+        self.change(&New::plain(key), value).map(Made::alone)
     }
 
     /// As [`Registry::attach_iface`].
@@ -181,19 +166,13 @@ impl<T> Cpu<T> {
         driver: impl Into<Key>,
         name: impl Into<Key>,
         value: T,
-    ) -> Result<Entry, Refused<AttachError, T>> {
-        let at = Location::caller();
-        Ok(New::of(self, name.into(), Some(driver.into()), false, at).change(value)?.0)
+    ) -> Changed<T> {
+        self.change(&New::iface(driver, name), value).map(Made::alone)
     }
 
     /// As [`Registry::replace`].
-    #[track_caller]
-    pub fn replace(
-        &self,
-        key: impl Into<Key>,
-        value: T,
-    ) -> Result<(Entry, Retired<T>), Refused<AttachError, T>> {
-        New::of(self, key.into(), None, true, Location::caller()).change(value).map(Made::both)
+    pub fn replace(&self, key: impl Into<Key>, value: T) -> Changed<T, (Entry, Retired<T>)> {
+        self.change(&New::plain(key).in_place(), value).map(Made::both)
     }
 
     /// As [`Registry::replace_iface`].
@@ -203,15 +182,15 @@ impl<T> Cpu<T> {
         driver: impl Into<Key>,
         name: impl Into<Key>,
         value: T,
-    ) -> Result<(Entry, Retired<T>), Refused<AttachError, T>> {
-        let at = Location::caller();
-        New::of(self, name.into(), Some(driver.into()), true, at).change(value).map(Made::both)
+    ) -> Changed<T, (Entry, Retired<T>)> {
+        self.change(&New::iface(driver, name).in_place(), value).map(Made::both)
     }
 
     /// As [`Registry::detach`].
     pub fn detach(&self, key: impl Into<Key>) -> Result<Retired<T>, DetachError> {
+        let key = key.into();
         self.tidy();
-        self.detach_by(&mut self.shared().kept(), key.into())
+        self.detach_by(&mut self.shared().kept(), key)
     }
 
     /// As [`Registry::detach_entry`].
@@ -279,40 +258,46 @@ impl<T> Cpu<T> {
     }
 }
 
-/// An entry that is to be attached, maybe in place of another: an interface, if it has a driver.
-struct New<'a, T> {
-    cpu: &'a Cpu<T>,
+/// An entry that is to be attached: an interface, if it has a driver.
+struct New {
     key: Key,
     driver: Option<Key>,
+    /// Whether it replaces another one.
     replaces: bool,
     /// The caller's line.
     at: &'static Location<'static>,
 }
 
-impl<'a, T> New<'a, T> {
-    fn of(
-        cpu: &'a Cpu<T>,
-        key: Key,
-        driver: Option<Key>,
-        replaces: bool,
-        at: &'static Location<'static>,
-    ) -> New<'a, T> {
-        let driver = driver.map(|driver| Key { kind: Kind::Driver, ..driver });
-        New { cpu, key, driver, replaces, at }
+impl New {
+    #[track_caller]
+    fn plain(key: impl Into<Key>) -> New {
+        New { key: key.into(), driver: None, replaces: false, at: Location::caller() }
     }
 
+    #[track_caller]
+    fn iface(driver: impl Into<Key>, name: impl Into<Key>) -> New {
+        let driver = Key { kind: Kind::Driver, ..driver.into() };
+        New { driver: Some(driver), ..New::plain(name) }
+    }
+
+    fn in_place(self) -> New {
+        New { replaces: true, ..self }
+    }
+}
+
+impl<T> Cpu<T> {
     /// Makes the change. If no slot is vacant, what nobody holds is freed before.
-    fn change(&self, value: T) -> Result<Made<T>, Refused<AttachError, T>> {
-        self.cpu.tidy();
-        let (shared, loose) = (self.cpu.shared(), Loose::new(value));
+    fn change(&self, new: &New, value: T) -> Changed<T, Made<T>> {
+        self.tidy();
+        let (shared, loose) = (self.shared(), Loose::new(value));
         let mut kept = shared.kept();
-        if !kept.has_slot() && !self.cpu.is_inside() {
+        if !kept.has_slot() && !self.is_inside() {
             drop(kept);
-            self.cpu.release_dropped();
+            self.release_dropped();
             shared.make_room();
             kept = shared.kept();
         }
-        let made = self.make(&mut kept, loose);
+        let made = self.make(new, &mut kept, loose);
         drop(kept);
         made.map_err(|(refusal, loose)| Refused { refusal, given: loose.into_value() })
     }
@@ -321,14 +306,15 @@ impl<'a, T> New<'a, T> {
     /// value comes back.
     fn make(
         &self,
+        new: &New,
         kept: &mut Kept<T>,
         loose: Loose<T>,
     ) -> Result<Made<T>, (AttachError, Loose<T>)> {
-        let (shared, mut gone) = (self.cpu.shared(), ffi::Entry::default());
-        let driver = self.driver.and_then(|driver| kept.named(driver));
+        let (shared, mut gone) = (self.shared(), ffi::Entry::default());
+        let driver = new.driver.and_then(|driver| kept.named(driver));
         // SAFETY: the keeper is locked, and of this registry, as the CPU is.
         let call = |made: *mut ffi::Entry| unsafe {
-            self.attach(&mut kept.keeper, loose.word(), &mut gone, made)
+            self.call(new, &mut kept.keeper, loose.word(), &mut gone, made)
         };
         // SAFETY: the call is an attach, which kupaldiz.h says writes the entry, to this registry.
         // If it fails, no entry has the address.
@@ -339,25 +325,26 @@ impl<'a, T> New<'a, T> {
         // SAFETY: the call has attached the entry with the value's address.
         unsafe { kept.note(made, loose.attached(), driver) };
         if let Some(driver) = driver {
-            shared.noted(|notes| notes.kept(driver, self.cpu.id(), self.at, made.number));
+            shared.noted(|notes| notes.kept(driver, self.id(), new.at, made.number));
         }
-        let old = self.replaces.then(|| self.cpu.detached(kept, &Record::of(&gone)));
+        let old = new.replaces.then(|| self.detached(kept, &Record::of(&gone)));
         Ok(Made(made.entry(shared.id), old))
     }
 
     /// Makes the call of kupaldiz.h, which writes the entry that was attached, and the one that it
     /// replaces, if there is one.
     /// Safety: the keeper is locked, and the CPU is of its registry.
-    unsafe fn attach(
+    unsafe fn call(
         &self,
+        new: &New,
         keeper: &mut ffi::Keeper,
         word: u64,
         gone: *mut ffi::Entry,
         made: *mut ffi::Entry,
     ) -> u32 {
-        let (cpu, name) = (self.cpu.handle(), &self.key.words);
-        match (&self.driver, self.replaces) {
-            (None, _) if self.key.kind == Kind::Iface => ffi::NEEDS_DRIVER,
+        let (cpu, name) = (self.handle(), &new.key.words);
+        match (&new.driver, new.replaces) {
+            (None, _) if new.key.kind == Kind::Iface => ffi::NEEDS_DRIVER,
             // SAFETY: as the caller says. The CPU is this thread's, and no handle is empty.
             (Some(driver), true) => unsafe {
                 ffi::kupaldiz_replace_iface(keeper, cpu, &driver.words, name, word, gone, made)
@@ -378,6 +365,10 @@ impl<'a, T> New<'a, T> {
 struct Made<T>(Entry, Option<Retired<T>>);
 
 impl<T> Made<T> {
+    fn alone(self) -> Entry {
+        self.0
+    }
+
     fn both(self) -> (Entry, Retired<T>) {
         (self.0, self.1.expect("what it replaces"))
     }

@@ -6,7 +6,7 @@ use crate::places::Hold;
 use crate::registry::Registry;
 use crate::shared::{Lease, Shared};
 use crate::tasks::{Tasks, Until};
-use std::cell::{Cell, UnsafeCell};
+use std::cell::{Cell, RefCell, UnsafeCell};
 use std::fmt;
 use std::mem;
 use std::panic::Location;
@@ -48,7 +48,7 @@ pub struct Cpu<T> {
     pub(crate) spare_row: Cell<Vec<ffi::Entry>>,
     /// What tasks are owed where the crate has chosen it: nobody's code runs until it is given
     /// back. The slots whose local references were let go.
-    pub(crate) owed: Cell<Option<Vec<usize>>>,
+    pub(crate) owed: RefCell<Option<Vec<usize>>>,
     /// The number of the registry.
     pub(crate) registry_id: u64,
     id: u8,
@@ -65,7 +65,7 @@ impl<T> Cpu<T> {
             lease: Arc::new(Lease { shared }),
             given_back: Cell::new(None),
             spare_row: Cell::default(),
-            owed: Cell::new(None),
+            owed: RefCell::new(None),
             id,
         }
     }
@@ -189,14 +189,17 @@ impl<T> Cpu<T> {
     /// Whether they may be woken.
     #[inline]
     pub(crate) fn let_go(&self, slots: &[usize]) -> bool {
-        let mut owed = self.owed.take();
-        let may_wake = owed.is_none();
-        owed.iter_mut().for_each(|owed| owed.extend(slots));
-        self.owed.set(owed);
-        if may_wake && !slots.is_empty() {
+        if let Some(owed) = &mut *self.owed.borrow_mut() {
+            // A task that is noted after this looks once more.
+            if self.tasks().are_any() {
+                owed.extend(slots);
+            }
+            return false;
+        }
+        if !slots.is_empty() {
             self.shared().wake_for_slots(slots);
         }
-        may_wake
+        true
     }
 }
 
@@ -329,7 +332,7 @@ impl<T> Drop for Cpu<T> {
         let handle = mem::replace(self.handle.get_mut(), ffi::Cpu::EMPTY);
         // SAFETY: it is this CPU's, which is gone.
         unsafe { self.shared().put_cpu(self.id, handle) };
-        if self.owed.take().is_none() {
+        if self.owed.get_mut().is_none() {
             self.tasks().wake(|_, _| true);
         }
     }

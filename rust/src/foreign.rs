@@ -54,8 +54,15 @@ impl FirstPanic {
 
     /// Lets the panic go on, if there was one.
     pub fn go_on(self) {
+        self.or(());
+    }
+
+    /// Returns this, or drops it and lets the panic go on.
+    pub fn or<R>(self, result: R) -> R {
         if let Some(payload) = self.0 {
+            quietly(|| drop(result));
             resume_unwind(payload);
         }
+        result
     }
 }

@@ -68,8 +68,9 @@ impl<T> State<T> {
         pool: &'pool CpuPool<T>,
         place: &'static Location<'static>,
     ) -> Option<LentCpu<'pool, T>> {
+        let thread = thread::current().id();
         let cpu = self.idle.pop()?;
-        self.loans.push(Loan { cpu: cpu.id(), thread: thread::current().id(), place });
+        self.loans.push(Loan { cpu: cpu.id(), thread, place });
         Some(LentCpu { pool, cpu: Some(cpu), thread: PhantomData })
     }
 

@@ -4,6 +4,7 @@ use crate::carried::{Carried, Plain};
 use crate::cpu::Cpu;
 use crate::error::{text, DestroyError, Refused, ShownWith};
 use crate::ffi;
+use crate::foreign::FirstPanic;
 use crate::patience::{Patience, Pauses};
 use crate::registry::Registry;
 use crate::shared::{Fate, Shared};
@@ -181,19 +182,19 @@ impl<T> Retired<T> {
     #[inline]
     fn after(mut self, done: Result<Freed<T>, DestroyError>) -> Destroyed<T> {
         match done {
-            Ok(freed) => {
-                self.settle(&freed);
-                Ok(freed)
-            }
+            Ok(freed) => Ok(self.settle(freed)),
             Err(refusal) => Err(Refused { refusal, given: self }),
         }
     }
 
-    /// The caller has the value: the token is spent, and then tasks are woken.
-    fn settle(&mut self, freed: &Freed<T>) {
+    /// The token is spent, and then tasks are woken. It may be the registry's last handle.
+    fn settle(&mut self, freed: Freed<T>) -> Freed<T> {
+        let mut panic = FirstPanic::default();
         if let Some(shared) = self.shared.take() {
             shared.settle(&freed.entry);
+            panic.run(|| drop(shared));
         }
+        panic.or(freed)
     }
 
     /// Leaves it to later calls, as dropping it does. The call makes one turn on each entry that
@@ -221,10 +222,7 @@ impl<T> Future for Retired<T> {
         let (token, mut noted) = (self.get_mut(), None);
         loop {
             let until = match token.turn() {
-                Ok(freed) => {
-                    token.settle(&freed);
-                    return Poll::Ready(freed);
-                }
+                Ok(freed) => return Poll::Ready(token.settle(freed)),
                 Err(DestroyError::StillHeld(holder)) => Until::of(holder, token.plain().slot()),
                 Err(_) => Until::Any,
             };
@@ -240,11 +238,15 @@ impl<T> Future for Retired<T> {
 }
 
 impl<T> Drop for Retired<T> {
-    /// Defers it, unless its value was taken.
+    /// Defers it, unless its value was taken. It may be the registry's last handle.
     fn drop(&mut self) {
-        if let Some(shared) = &self.shared {
-            shared.defer(self.plain());
-            shared.drop_deferred();
+        let entry = self.shared.is_some().then(|| self.plain());
+        if let (Some(entry), Some(shared)) = (entry, self.shared.take()) {
+            let mut panic = FirstPanic::default();
+            shared.defer(entry);
+            panic.run(|| shared.drop_deferred());
+            panic.run(|| drop(shared));
+            panic.go_on();
         }
     }
 }

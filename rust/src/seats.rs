@@ -77,7 +77,7 @@ impl<T> Seats<T> {
             let seated = || seat.take(ptr::null_mut()).map(|cpu| *cpu);
             let found = Cpu::spare(&self.shared, id).or_else(seated);
             if found.is_some() || seat.is_empty() {
-                found.iter().for_each(|cpu| cpu.owed.set(None));
+                found.iter().for_each(|cpu| drop(cpu.owed.take()));
                 return found;
             }
             pauses.another();
@@ -135,7 +135,7 @@ impl<T> Seats<T> {
         at.compare_exchange(ptr::null_mut(), taken(), Ordering::Relaxed, Ordering::Relaxed).ok()?;
         let cpu = Cpu::spare(&self.shared, place as u8);
         match &cpu {
-            Some(cpu) => cpu.owed.set(Some(Vec::new())),
+            Some(cpu) => drop(cpu.owed.replace(Some(Vec::new()))),
             None => at.store(ptr::null_mut(), Ordering::Relaxed),
         }
         cpu.map(Box::new)

@@ -422,7 +422,7 @@ impl<T> Shared<T> {
     #[cold]
     fn give_up_dropped(&self, keeper: &mut ffi::Keeper, slot: usize) -> bool {
         let dropped = self.baskets.take(slot);
-        let had_any = !dropped.is_empty();
+        let had_any = dropped.len() > 0;
         for mut local in dropped {
             // SAFETY: the caller holds the interlock of this registry. All references in its
             // baskets are of this registry.
@@ -466,8 +466,10 @@ impl<T> Drop for Shared<T> {
         // have a share of the registry; all are gone, so no reference to a value lives. Its
         // row has gone with `rows`, so each is taken once.
         let values: Vec<T> = left.into_iter().map(|carried| unsafe { carried.take() }).collect();
-        // The youngest first. A value whose drop panics doesn't keep the others from theirs.
-        drop(values);
+        // The youngest first.
+        let mut panic = FirstPanic::default();
+        values.into_iter().for_each(|value| panic.run(|| drop(value)));
+        panic.go_on();
     }
 }
 

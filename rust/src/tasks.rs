@@ -59,7 +59,9 @@ impl<U> Tasks<U> {
     /// nothing half changed.
     #[inline]
     pub fn wake(&self, is_meant: impl Fn(u64, &U) -> bool) {
-        self.meant(is_meant).wake();
+        if self.are_any() {
+            Meant(self.take(is_meant)).wake_all();
+        }
     }
 
     /// Takes those out that are meant, by their keys and what they wait for. The rest keep their
@@ -98,6 +100,13 @@ pub struct Meant(Vec<Waker>);
 impl Meant {
     #[inline]
     pub fn wake(self) {
+        if !self.0.is_empty() {
+            self.wake_all();
+        }
+    }
+
+    #[cold]
+    fn wake_all(self) {
         self.0.into_iter().for_each(|waker| quietly(|| waker.wake()));
     }
 

@@ -195,6 +195,46 @@ fn sections_nest_to_the_greatest_depth() {
     assert!(!cpus[0].is_inside());
 }
 
+/// By each call that counts: a lookup by one call begins a section, if its CPU doesn't remember the
+/// entry. A local reference that was dropped is released before a call fails.
+#[test]
+fn each_limit_is_told() {
+    let with = |settings: Settings| {
+        let (registry, mut cpus) = opened(settings);
+        assert_eq!(registry.attach(WM, 7).map(|entry| entry.number), Ok(1));
+        (registry, cpus.remove(0))
+    };
+    let (_registry, cpu) = with(Settings::new(1, 4).sections(1));
+    drop(cpu.enter().unwrap());
+    let spent = [
+        cpu.enter().map(drop),
+        cpu.read(WM).map(drop),
+        cpu.look_up(WM).map(drop),
+        cpu.get(WM).map(drop),
+        cpu.get_local(WM).map(drop),
+    ];
+    assert_eq!(spent, [Err(LookUpError::SectionsSpent); 5]);
+    let spent = cpu.attach_iface(WM, "wm0", 8).unwrap_err();
+    assert_eq!((spent.refusal, spent.given), (AttachError::SectionsSpent, 8));
+
+    let (_registry, cpu) = with(Settings::new(1, 4).passives(1).locals(1));
+    let (guard, one) = (cpu.read(WM).unwrap(), cpu.get(WM).unwrap());
+    let full = [ReadGuard::acquire(&guard), PassiveRef::try_clone(&one), cpu.get(WM)];
+    assert_eq!(full.map(|full| full.map(drop)), [Err(LookUpError::PassiveFull); 3]);
+    let held = local(&cpu, "wm");
+    let full = [ReadGuard::acquire_local(&guard), cpu.get_local(WM)];
+    assert_eq!(full.map(|full| full.map(drop)), [Err(LookUpError::LocalFull); 2]);
+    ReadGuard::exit(guard);
+    assert_eq!(cpu.attach_iface(WM, "wm0", 8).unwrap_err().refusal, AttachError::LocalFull);
+    drop(held);
+    assert!(cpu.get_local(WM).is_ok() && cpu.attach_iface(WM, "wm0", 8).is_ok());
+
+    let (registry, cpu) = with(Settings::new(1, 4).changes(3));
+    let full = [cpu.attach("vga", 8).map(drop), cpu.replace(WM, 8).map(drop)];
+    assert!(full.iter().all(|full| full.as_ref().unwrap_err().refusal == AttachError::HistoryFull));
+    assert_eq!(registry.retire(WM).map(|freed| freed.len()), Ok(1));
+}
+
 #[test]
 fn with_all_cpus_taken_none_is_left_to_choose() {
     let (registry, cpus) = opened(Settings::new(LIMITS.cpus as u8, 2));

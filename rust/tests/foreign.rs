@@ -80,7 +80,7 @@ struct Scene {
 impl Scene {
     /// With the drivers `wm` and `vga`.
     fn open() -> (Scene, Vec<Cpu<Tracked>>) {
-        let (registry, mut cpus) = opened(Settings::new(5, 8));
+        let (registry, mut cpus) = opened(Settings::new(5, 16));
         let drops = Drops::default();
         for text in ["wm", "vga"] {
             cpus[0].attach(name(text), drops.make(1)).unwrap();
@@ -362,8 +362,6 @@ fn a_closure_may_do_anything() {
         ];
         assert!(!cpu.is_inside() && !cpu.holds(1));
         let pool = CpuPool::new([cpus.remove(1)]).unwrap();
-        let with = panics(|| drop(scene.registry.get(Keyed(&code))));
-        assert!(pool.try_lend().is_some());
         let audited = panics(|| drop(scene.registry.audit([Looked(&cpu, &code)])));
         let walked = panics(|| drop(scene.registry.audit(cpus.iter().inspect(|_| code()))));
         drop(pool);
@@ -378,10 +376,47 @@ fn a_closure_may_do_anything() {
             ))
         });
         assert!((2..=4).all(|id| scene.registry.cpu(id).is_some()));
-        let all = [&mapped[..], &[with, audited, walked, pooled]].concat();
+        let all = [&mapped[..], &[audited, walked, pooled]].concat();
         assert!(all.iter().all(|one| *one == matches!(deed, Deed::Panics)), "{deed:?}: {all:?}");
         drop((code, cpu));
-        scene.ends(cpus, 8 + usize::from(!matches!(deed, Deed::Panics)), "closures");
+        scene.ends(cpus, 7 + usize::from(!matches!(deed, Deed::Panics)), "closures");
+    }
+}
+
+/// Before the call does anything: so it has no lock, and no CPU.
+#[test]
+fn what_becomes_a_key_may_do_anything() {
+    const CALLS: usize = 21;
+    for deed in DEEDS {
+        let (scene, cpus) = Scene::open();
+        let (registry, cpu, code) = (&scene.registry, &cpus[0], scene.code(deed));
+        let (key, value) = (|| Keyed(&code), || scene.drops.make(3));
+        let calls: [&dyn Fn(); CALLS] = [
+            &|| _ = registry.get(key()),
+            &|| _ = registry.look_up(key()),
+            &|| _ = registry.attach(key(), value()),
+            &|| _ = registry.attach_iface(key(), "wm0", value()),
+            &|| _ = registry.attach_iface("wm", key(), value()),
+            &|| _ = registry.replace(key(), value()),
+            &|| _ = registry.replace_iface(key(), "wm", value()),
+            &|| _ = registry.detach(key()),
+            &|| _ = registry.retire(key()),
+            &|| _ = cpu.get(key()),
+            &|| _ = cpu.get_local(key()),
+            &|| _ = cpu.read(key()),
+            &|| _ = cpu.look_up(key()),
+            &|| _ = cpu.enter().map(|section| section.find(key()).is_some()),
+            &|| _ = cpu.attach(key(), value()),
+            &|| _ = cpu.attach_iface("wm", key(), value()),
+            &|| _ = cpu.replace(key(), value()),
+            &|| _ = cpu.replace_iface("wm", key(), value()),
+            &|| _ = cpu.detach((Kind::Iface, key())),
+            &|| _ = cpu.detach(key()),
+            &|| _ = cpu.retire(key()),
+        ];
+        assert_eq!(calls.map(panics), [matches!(deed, Deed::Panics); CALLS], "{deed:?}");
+        drop(code);
+        scene.ends(cpus, CALLS, "keys");
     }
 }
 
@@ -544,32 +579,42 @@ fn a_driver_waits_for_the_drop_of_its_interface() {
     }
 }
 
-/// The last handle, of each kind, and a close.
+/// The last handle, of each kind, a close and a destroy; one of the values, or all.
 #[test]
 fn a_drop_may_panic_as_the_registry_closes() {
-    for (acts, last) in (0..3).flat_map(|acts| (0..5).map(move |last| (acts, last))) {
+    for (acts, last) in (0..4).flat_map(|acts| (0..6).map(move |last| (acts, last))) {
         let drops = Drops::default();
         let (registry, mut cpus, desks) = acting(&drops);
         let held = cpus[0].get_local("d0").unwrap();
         let token = cpus[0].detach("d1").unwrap();
         let cpu = cpus.remove(1);
         drop(cpus);
-        *desks[acts].lock().unwrap() = Some(Box::new(move || panic!("a drop's own")));
-        let mut all: Vec<Box<dyn FnOnce()>> = vec![
-            Box::new(move || drop(held)),
-            Box::new(move || drop(token)),
-            Box::new(move || drop(cpu)),
-            Box::new(move || {
-                if last == 4 {
-                    drop(registry.close(Patience::Turns(1)))
-                } else {
-                    drop(registry)
-                }
-            }),
-        ];
-        let last = all.remove(last.min(3));
+        for (_, desk) in desks.iter().enumerate().filter(|(place, _)| acts == 3 || acts == *place) {
+            *desk.lock().unwrap() = Some(Box::new(move || panic!("a drop's own")));
+        }
+        let mut all: Vec<Box<dyn FnOnce()>> =
+            vec![
+                Box::new(move || drop(held)),
+                Box::new(move || {
+                    if last == 5 {
+                        drop(token.destroy(Patience::Turns(1)))
+                    } else {
+                        drop(token)
+                    }
+                }),
+                Box::new(move || drop(cpu)),
+                Box::new(move || {
+                    if last == 4 {
+                        drop(registry.close(Patience::Turns(1)))
+                    } else {
+                        drop(registry)
+                    }
+                }),
+            ];
+        let last = all.remove(if last == 5 { 1 } else { last.min(3) });
         let before = all.into_iter().map(panics).filter(|panicked| *panicked).count();
-        assert_eq!(before + usize::from(panics(last)), 1);
+        // Those of a token that goes before, and of the closing.
+        assert!((1..=2).contains(&(before + usize::from(panics(last)))));
         assert_eq!((drops.made(), drops.dropped()), (3, 3));
     }
 }

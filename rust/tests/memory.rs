@@ -113,15 +113,15 @@ fn a_closing_closes_each_cpu_and_the_keeper() {
 fn a_reference_that_is_dropped_without_memory_stays_held() {
     let (registry, cpus) = with_driver(7);
     let (cpu, locals) = (&cpus[0], watched::locals());
-    // There is none for a list of more than 64.
+    // There is none for a list of more than 64, and the first is in no list.
     let held: Vec<_> = (0..100).map(|_| local(cpu, "wm")).collect();
     with_blocks_of(64 * 64, || drop(held));
-    assert_eq!((registry.dropped(), watched::locals()), (64, locals + 64));
+    assert_eq!((registry.dropped(), watched::locals()), (65, locals + 65));
     let retired = cpu.detach("wm").unwrap();
     assert_eq!((registry.dropped(), watched::locals()), (0, locals));
     assert_eq!(
         retired.try_destroy().unwrap_err().refusal,
-        DestroyError::StillHeld(Holder::Local(36))
+        DestroyError::StillHeld(Holder::Local(35))
     );
 }
 

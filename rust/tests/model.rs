@@ -1,34 +1,29 @@
 //! Random calls beside a plain model: each call returns what the model says.
 //!
-//! The limits are low, so that each refusal comes; every second registry notes places. Two of its
-//! CPUs are in a pool, and one more is its own. Every other registry has many slots and
-//! names, and so many deferred entries, and many tasks that wait.
+//! They are what no script of the repository says, which examples/script.rs runs: what entries
+//! carry and when it is dropped, what is deferred, tasks that wait, references that are dropped
+//! without a CPU, who holds an entry, and calls that make several steps of the protocol or choose
+//! a CPU. Of every four registries two note places, and two have many slots and names, and so many
+//! deferred entries, and many tasks.
 
 mod common;
 
-use common::{name, opened, scaled, Dice, Drops, Task, Tracked};
+use common::{name, scaled, why, Dice, Drops, Task, Tracked};
 use kupaldiz::{
-    Cpu, CpuPool, Entry, Found, Freed, Hold, Holder, Kind, LentCpu, LocalRef, Name, PassiveRef,
-    Patience, ReadGuard, Refused, Registry, RegistryError, Retired, Section, Settings, LIMITS,
+    Cpu, Entry, Found, Freed, Hold, Holder, Kind, LocalRef, Name, PassiveRef, Patience, ReadGuard,
+    Refused, Registry, RegistryError, Retired, Section, Settings,
 };
-use std::cell::RefCell;
 use std::cmp::Reverse;
 use std::collections::{BTreeSet, HashMap};
 use std::mem;
 use std::sync::Arc;
 use std::task::Poll;
-use std::time::Instant;
 
-/// So many CPUs have sections that stay open, and so many more are in the pool. The last one the
-/// crate chooses.
+/// The CPUs that the test has. One more is the registry's own.
 const CPUS: usize = 3;
-const POOLED: usize = 2;
-const CHOSEN: usize = CPUS + POOLED;
-const ALL: usize = CHOSEN + 1;
 /// Slots, and names of each kind.
-const FEW: (usize, usize) = (5, 3);
-const MANY: (usize, usize) = (40, 24);
-const DEEPEST: usize = 4;
+const FEW: (u8, usize) = (5, 3);
+const MANY: (u8, usize) = (40, 24);
 const KINDS: [Kind; 2] = [Kind::Driver, Kind::Iface];
 
 /// An entry whose slot isn't free, as the model knows it.
@@ -42,8 +37,6 @@ struct Known {
     driver: Option<(u64, usize)>,
     /// Of each CPU, which of its sections was open as the entry was detached.
     open: [Option<u64>; CPUS],
-    /// Of each CPU, its acquires of local references less its releases.
-    net: [i64; ALL],
     /// The references that were dropped and aren't released, each by its place in `clones`.
     dropped: Vec<usize>,
 }
@@ -77,14 +70,7 @@ impl Token {
     }
 }
 
-/// What keeps a section open: a guard, or a section without one.
-type Open<'cpu> = Result<ReadGuard<'cpu, Tracked>, Section<'cpu, Tracked>>;
-
 type Told<R> = Result<R, RegistryError>;
-
-fn section<'open, 'cpu>(open: &'open Open<'cpu>) -> &'open Section<'cpu, Tracked> {
-    open.as_ref().map_or_else(|section| section, ReadGuard::section)
-}
 
 /// The CPU and the number.
 fn place(held: &PassiveRef<'_, Tracked>) -> (usize, u64) {
@@ -96,29 +82,24 @@ fn place(held: &PassiveRef<'_, Tracked>) -> (usize, u64) {
 struct Bench<'cpu> {
     registry: &'cpu Registry<Tracked>,
     cpus: &'cpu [Cpu<Tracked>],
-    pool: &'cpu CpuPool<Tracked>,
-    /// A CPU of another registry, which has the driver `d0`.
-    foreign: &'cpu Cpu<Tracked>,
     drops: &'cpu Drops,
-    settings: Settings,
+    slots: u8,
+    names: usize,
     dice: Dice,
-    open: Vec<Vec<Open<'cpu>>>,
-    /// How many sections each CPU has begun. A lookup of what it remembers is counted, too, and
-    /// may begin none.
-    begun: [u64; ALL],
+    open: [Option<Section<'cpu, Tracked>>; CPUS],
+    /// How many sections each CPU has begun.
+    begun: [u64; CPUS],
     /// What each CPU has found last.
-    last: [Option<u64>; ALL],
+    last: [Option<u64>; CPUS],
     passives: Vec<PassiveRef<'cpu, Tracked>>,
     locals: Vec<Held>,
     /// Of each reference that was acquired, how many there are with its clones.
     clones: Vec<usize>,
-    loans: Vec<LentCpu<'cpu, Tracked>>,
     tokens: Vec<Token>,
     deferred: Vec<u64>,
     known: Vec<Known>,
     /// What an attach has freed for its slot. The value is still there.
     vacated: Vec<Known>,
-    names: usize,
     changes: u64,
     labels: u64,
     /// The driver's label of each interface.
@@ -147,8 +128,8 @@ impl<'cpu> Bench<'cpu> {
         self.known.iter_mut().find(|one| one.entry.number == number).expect("a known entry")
     }
 
-    fn is_inside(&self, cpu: usize) -> bool {
-        !self.open[cpu].is_empty()
+    fn is_inside(&self, cpu: Option<usize>) -> bool {
+        cpu.map_or(false, |cpu| self.open[cpu].is_some())
     }
 
     fn passives_on(&self, cpu: usize, number: u64) -> usize {
@@ -157,7 +138,7 @@ impl<'cpu> Bench<'cpu> {
 
     /// Whether this CPU is still in a section that may have found the entry.
     fn is_in_grace(&self, cpu: usize, one: &Known) -> bool {
-        self.is_inside(cpu) && (one.live || one.open[cpu] == Some(self.begun[cpu]))
+        self.is_inside(Some(cpu)) && (one.live || one.open[cpu] == Some(self.begun[cpu]))
     }
 
     /// The CPUs that acquired the local references to an entry, the interface of these that keeps
@@ -238,33 +219,30 @@ impl<'cpu> Bench<'cpu> {
         numbers.into_iter().filter(|number| self.turn(*number).is_none()).collect()
     }
 
-    /// The CPU releases what was dropped, of this entry or of all.
-    fn release_dropped(&mut self, cpu: usize, number: Option<u64>) {
+    /// What was dropped is released, of this entry or of all.
+    fn release_dropped(&mut self, number: Option<u64>) {
         let is_meant = |one: &&mut Known| number.map_or(true, |number| one.entry.number == number);
         for one in self.known.iter_mut().filter(is_meant) {
-            for of in one.dropped.drain(..) {
-                self.clones[of] -= 1;
-                one.net[cpu] -= i64::from(self.clones[of] == 0);
-            }
+            one.dropped.drain(..).for_each(|of| self.clones[of] -= 1);
         }
     }
 
-    /// What comes before a change.
-    fn before_change(&mut self, cpu: usize) -> Told<()> {
+    /// What comes before a change, on a CPU or on the one that the crate chooses.
+    fn before_change(&mut self, cpu: Option<usize>) -> Told<()> {
         if self.is_inside(cpu) {
             return Err(RegistryError::Inside);
         }
-        self.release_dropped(cpu, None);
+        self.release_dropped(None);
         Ok(())
     }
 
     fn vacant(&self) -> Option<u8> {
-        (0..self.settings.slots).find(|slot| self.known.iter().all(|one| one.entry.slot != *slot))
+        (0..self.slots).find(|slot| self.known.iter().all(|one| one.entry.slot != *slot))
     }
 
     /// What comes before an attach: if no slot is vacant, one turn is made for each retired entry,
     /// the youngest first.
-    fn before_attach(&mut self, cpu: usize) -> Told<()> {
+    fn before_attach(&mut self, cpu: Option<usize>) -> Told<()> {
         self.before_change(cpu)?;
         if self.vacant().is_none() {
             let retired = self.known.iter().filter(|one| !one.live).map(|one| one.entry.number);
@@ -275,26 +253,12 @@ impl<'cpu> Bench<'cpu> {
         Ok(())
     }
 
-    /// The slot that an attach or a replacement gets.
-    fn slot(&self) -> Told<u8> {
-        let live = self.known.iter().filter(|one| one.live).count() as u64;
-        match self.vacant() {
-            Some(_) if self.settings.changes - self.changes < live + 2 => {
-                Err(RegistryError::HistoryFull)
-            }
-            Some(slot) => Ok(slot),
-            None => Err(RegistryError::NoSlot),
-        }
-    }
-
     /// An entry was attached, in the place of this one, if it replaced one.
     fn attached(&mut self, entry: Entry, driver: Option<(u64, usize)>, old: Option<u64>) {
         self.changes += 1;
         assert_eq!(entry.number, self.changes);
-        if let Some((number, cpu)) = driver {
-            let driver = self.known(number);
-            driver.net[cpu] += 1;
-            let of_driver = driver.label;
+        if let Some((number, _)) = driver {
+            let of_driver = self.known(number).label;
             self.drivers.push((self.labels, of_driver));
         }
         let rank = old.map_or(entry.number, |old| self.known(old).rank);
@@ -305,24 +269,14 @@ impl<'cpu> Bench<'cpu> {
             rank,
             driver,
             open: [None; CPUS],
-            net: [0; ALL],
             dropped: Vec::new(),
         });
     }
 
     fn detached(&mut self, number: u64) {
-        let open = [0, 1, 2].map(|cpu| self.is_inside(cpu).then(|| self.begun[cpu]));
+        let open = [0, 1, 2].map(|cpu| self.is_inside(Some(cpu)).then(|| self.begun[cpu]));
         let one = self.known(number);
         (one.live, one.open) = (false, open);
-    }
-
-    /// Whether a call that may begin a section has failed because the CPU has begun as many as it
-    /// may.
-    fn is_spent<R>(&mut self, cpu: usize, answer: &Told<R>) -> bool {
-        let is_refused = matches!(answer, Err(RegistryError::SectionsSpent));
-        assert!(!is_refused || !self.is_inside(cpu) && self.begun[cpu] >= self.settings.sections);
-        self.begun[cpu] += u64::from(!is_refused && !self.is_inside(cpu));
-        is_refused
     }
 
     /// The CPU looks an entry up once more that it found before, if it has found something else
@@ -336,32 +290,18 @@ impl<'cpu> Bench<'cpu> {
         Err(RegistryError::NotFound)
     }
 
-    /// What an acquire of a found entry returns: a passive reference,
+    /// What an acquire of a found entry returns: a passive reference, or a local one, after those to
+    /// it that were dropped are released.
     fn passively(&mut self, cpu: usize, entry: Entry) -> Told<(usize, u64)> {
-        match self.passives_on(cpu, entry.number) as u64 {
-            0 => self.seek(cpu, entry)?,
-            count if count == self.settings.passives => return Err(RegistryError::PassiveFull),
-            _ => (),
+        if self.passives_on(cpu, entry.number) == 0 {
+            self.seek(cpu, entry)?;
         }
         Ok((cpu, entry.number))
     }
 
-    /// or a local one, after those to it that were dropped are released.
     fn locally(&mut self, cpu: usize, entry: Entry) -> Told<Entry> {
-        self.release_dropped(cpu, Some(entry.number));
-        self.seek(cpu, entry)?;
-        self.count(cpu, entry)
-    }
-
-    /// The CPU counts a local reference to this entry.
-    fn count(&mut self, cpu: usize, entry: Entry) -> Told<Entry> {
-        let limit = self.settings.locals as i64;
-        let net = &mut self.known(entry.number).net[cpu];
-        if *net == limit {
-            return Err(RegistryError::LocalFull);
-        }
-        *net += 1;
-        Ok(entry)
+        self.release_dropped(Some(entry.number));
+        self.seek(cpu, entry).map(|()| entry)
     }
 }
 
@@ -380,14 +320,10 @@ impl<'cpu> Bench<'cpu> {
         (cpu, &self.cpus[cpu])
     }
 
-    /// A CPU, or the one that the crate chooses.
-    fn any_or_chosen(&mut self) -> (usize, Option<&'cpu Cpu<Tracked>>) {
-        let (at, cpu) = self.any_cpu();
-        if self.dice.below(4) == 0 {
-            (CHOSEN, None)
-        } else {
-            (at, Some(cpu))
-        }
+    /// A CPU, or none: then the crate chooses one.
+    fn any_or_chosen(&mut self) -> Option<usize> {
+        let place = self.dice.below(4);
+        Some(place).filter(|place| *place < CPUS)
     }
 
     fn any_key(&mut self) -> (Kind, Name) {
@@ -400,49 +336,42 @@ impl<'cpu> Bench<'cpu> {
         self.passives.extend(got);
     }
 
-    fn keep_local(&mut self, got: Told<LocalRef<Tracked>>, cpu: usize, expected: Told<Entry>) {
+    /// A CPU that the crate has chosen is its own: the program has the others.
+    fn keep_local(
+        &mut self,
+        got: Told<LocalRef<Tracked>>,
+        cpu: Option<usize>,
+        expected: Told<Entry>,
+    ) {
         assert_eq!(got.as_ref().map(LocalRef::entry).map_err(|why| *why), expected);
         if let Ok(local) = got {
-            self.locals.push(Held { local, cpu, of: self.clones.len() });
+            self.locals.push(Held { local, cpu: cpu.unwrap_or(CPUS), of: self.clones.len() });
             self.clones.push(1);
         }
     }
 
-    /// Any guard may go first: the section ends with the last.
     fn enter_or_exit(&mut self) {
-        let ((at, cpu), (kind, name)) = (self.any_cpu(), self.any_key());
-        if self.open[at].len() == DEEPEST || self.dice.below(2) == 0 {
-            drop(self.dice.take(&mut self.open[at]));
-        } else if self.dice.below(2) == 0 {
-            let section = cpu.enter().map_err(why);
-            if !self.is_spent(at, &section) {
-                self.open[at].push(Err(section.unwrap()));
-            }
-        } else {
-            let guard = cpu.read((kind, &name)).map_err(why);
-            if !self.is_spent(at, &guard) {
-                assert_eq!(
-                    guard.as_ref().map(ReadGuard::entry).map_err(|why| *why),
-                    self.look(at, kind, &name)
-                );
-                self.open[at].extend(guard.map(Ok));
-            }
+        let (at, cpu) = self.any_cpu();
+        if self.open[at].take().is_none() {
+            self.open[at] = Some(cpu.enter().unwrap());
+            self.begun[at] += 1;
         }
-        assert_eq!(usize::from(cpu.depth()), self.open[at].len());
+        assert_eq!(cpu.is_inside(), self.open[at].is_some());
     }
 
     /// Looks two entries up in one section, and acquires the one that was found first.
     fn find_two(&mut self) {
         let ((at, _), keys, passively) =
             (self.any_cpu(), [self.any_key(), self.any_key()], self.dice.below(2) == 0);
-        let section = match self.open[at].last() {
-            Some(open) => section(open),
+        let section = match &self.open[at] {
+            Some(section) => section,
             None => return,
         };
         let found = keys.map(|(kind, name)| section.find((kind, &name)));
         for (found, (kind, name)) in found.iter().zip(&keys) {
             let expected = self.live(*kind, name).map(|one| (one.entry, one.label));
             assert_eq!(found.as_ref().map(|found| (Found::entry(found), found.label)), expected);
+            assert_eq!(section.contains((*kind, name)), expected.is_some());
         }
         let first = found.iter().flatten().next();
         let passive =
@@ -457,39 +386,17 @@ impl<'cpu> Bench<'cpu> {
         }
         if let Some((entry, local)) = local {
             let expected = self.locally(at, entry);
-            self.keep_local(local.map_err(why), at, expected);
-        }
-    }
-
-    /// Acquires what a guard has found that is open for longer. Other entries were found since, or
-    /// it was detached.
-    fn acquire_by_guard(&mut self) {
-        let ((at, _), passively) = (self.any_cpu(), self.dice.below(2) == 0);
-        let place = self.dice.below(self.open[at].len().max(1));
-        match self.open[at].get(place) {
-            Some(Ok(guard)) if passively => {
-                let (entry, got) =
-                    (ReadGuard::entry(guard), ReadGuard::acquire(guard).map_err(why));
-                let expected = self.passively(at, entry);
-                self.keep(got, expected);
-            }
-            Some(Ok(guard)) => {
-                let (entry, got) =
-                    (ReadGuard::entry(guard), ReadGuard::acquire_local(guard).map_err(why));
-                let expected = self.locally(at, entry);
-                self.keep_local(got, at, expected);
-            }
-            _ => (),
+            self.keep_local(local.map_err(why), Some(at), expected);
         }
     }
 
     fn walk(&mut self) {
         let (at, _) = self.any_cpu();
-        if let Some(open) = self.open[at].first() {
+        if let Some(section) = &self.open[at] {
             let mut live: Vec<_> = self.known.iter().filter(|one| one.live).collect();
             live.sort_by_key(|one| Reverse(one.rank));
             let expected: Vec<_> = live.iter().map(|one| (one.entry, one.label)).collect();
-            let walk = section(open).entries();
+            let walk = section.entries();
             assert_eq!(walk.len(), expected.len());
             assert_eq!(
                 walk.map(|found| (Found::entry(&found), found.label)).collect::<Vec<_>>(),
@@ -501,65 +408,35 @@ impl<'cpu> Bench<'cpu> {
 
     /// By one call.
     fn refer(&mut self) {
-        let ((at, cpu), (kind, name), way) =
-            (self.any_or_chosen(), self.any_key(), self.dice.below(3));
-        let key = (kind, &name);
-        match (way, cpu) {
-            (0, _) => {
-                let entry = match cpu {
-                    Some(cpu) => cpu.look_up(key),
-                    None => self.registry.look_up(key),
-                };
-                let entry = entry.map_err(why);
-                if !self.is_spent(at, &entry) {
-                    assert_eq!(entry, self.look(at, kind, &name));
-                }
+        let (at, (kind, name), way) = (self.any_or_chosen(), self.any_key(), self.dice.below(4));
+        let (key, cpu) = ((kind, &name), at.map(|at| &self.cpus[at]));
+        let found = self.found(kind, &name);
+        match (way, at, cpu) {
+            (0, Some(at), Some(cpu)) => {
+                let expected =
+                    self.look(at, kind, &name).and_then(|entry| self.passively(at, entry));
+                self.keep(cpu.get(key).map_err(why), expected);
             }
-            (1, Some(cpu)) => {
-                let got = cpu.get(key).map_err(why);
-                if !self.is_spent(at, &got) {
-                    let expected =
-                        self.look(at, kind, &name).and_then(|entry| self.passively(at, entry));
-                    self.last[at] = expected.ok().map(|place| place.1);
-                    self.keep(got, expected);
-                }
+            (1, Some(_), Some(cpu)) => {
+                let guard = cpu.read(key).map_err(why);
+                assert_eq!(guard.as_ref().map(ReadGuard::entry).map_err(|why| *why), found);
+                guard.iter().for_each(|guard| guard.check());
+            }
+            (2, ..) => {
+                let entry = cpu.map_or_else(|| self.registry.look_up(key), |cpu| cpu.look_up(key));
+                assert_eq!(entry.map_err(why), found);
             }
             _ => {
-                let got = match cpu {
-                    Some(cpu) => cpu.get_local(key),
-                    None => self.registry.get(key),
-                };
-                self.got_local(at, kind, &name, got.map_err(why));
+                let got = cpu.map_or_else(|| self.registry.get(key), |cpu| cpu.get_local(key));
+                if let Ok(entry) = found {
+                    self.release_dropped(Some(entry.number));
+                }
+                self.keep_local(got.map_err(why), at, found);
             }
         }
-    }
-
-    /// A local reference that a call by one name has acquired. At its limit the CPU releases what
-    /// was dropped, and tries again.
-    fn got_local(&mut self, at: usize, kind: Kind, name: &Name, got: Told<LocalRef<Tracked>>) {
-        let found = self.found(kind, name);
-        let is_full = |bench: &mut Self, entry: &Entry| {
-            let limit = bench.settings.locals as i64;
-            bench.known(entry.number).net[at] == limit
-        };
-        let was_any = self.known.iter().any(|one| !one.dropped.is_empty());
-        let again = was_any && found.map_or(false, |entry| is_full(self, &entry));
-        self.begun[at] += u64::from(again && !self.is_inside(at));
-        if self.is_spent(at, &got) {
-            // It may be the second call that was refused.
-            if again {
-                self.release_dropped(at, None);
-            }
-            return;
+        if let Some(at) = at {
+            self.last[at] = found.ok().map(|entry| entry.number);
         }
-        if again {
-            self.release_dropped(at, None);
-        }
-        let expected = self.look(at, kind, name).and_then(|entry| self.count(at, entry));
-        if let Ok(entry) = expected {
-            self.release_dropped(at, Some(entry.number));
-        }
-        self.keep_local(got, at, expected);
     }
 
     fn release(&mut self) {
@@ -595,16 +472,11 @@ impl<'cpu> Bench<'cpu> {
         }
     }
 
-    /// On a CPU that is lent, if any is.
     fn release_local(&mut self, held: Held) {
         let (number, (_, cpu)) = (held.number(), self.any_cpu());
-        let cpu = self.loans.last().map_or(cpu, |loan| loan);
-        let at = usize::from(cpu.id());
         LocalRef::release(held.local, cpu);
         self.clones[held.of] -= 1;
-        let is_last = self.clones[held.of] == 0;
-        self.known(number).net[at] -= i64::from(is_last);
-        self.release_dropped(at, Some(number));
+        self.release_dropped(Some(number));
     }
 }
 
@@ -612,12 +484,12 @@ impl<'cpu> Bench<'cpu> {
 impl<'cpu> Bench<'cpu> {
     /// An attach, or a replace: what holds the old entry keeps it, and on an error it stays.
     fn attach(&mut self) {
-        let ((at, cpu), (kind, name)) = (self.any_or_chosen(), self.any_key());
+        let (at, (kind, name)) = (self.any_or_chosen(), self.any_key());
         let (replaces, driver) = (self.dice.below(3) == 0, any_name(self.dice.below(self.names)));
         let (registry, value, is_iface) = (self.registry, self.value(), kind == Kind::Iface);
         let alone = |made| (made, None);
         let both = |(made, old)| (made, Some(old));
-        let made = match (replaces, is_iface, cpu) {
+        let made = match (replaces, is_iface, at.map(|at| &self.cpus[at])) {
             (false, false, Some(cpu)) => cpu.attach(name, value).map(alone),
             (false, false, None) => registry.attach(name, value).map(alone),
             (false, true, Some(cpu)) => cpu.attach_iface(driver, name, value).map(alone),
@@ -627,34 +499,27 @@ impl<'cpu> Bench<'cpu> {
             (true, true, Some(cpu)) => cpu.replace_iface(driver, name, value).map(both),
             (true, true, None) => registry.replace_iface(driver, name, value).map(both),
         };
-        let made = made.map_err(why);
         let kept = self.live(Kind::Driver, &driver).filter(|_| is_iface).map(|one| one.entry);
-        if is_iface && !self.is_inside(at) && self.is_spent(at, &made) {
-            let _ = self.before_attach(at);
-            return;
-        }
         let expected = self.before_attach(at).and_then(|()| {
-            if is_iface {
-                let driver = kept.ok_or(RegistryError::NeedsDriver)?;
-                self.count(at, driver)?;
-                self.known(driver.number).net[at] -= 1;
+            if is_iface && kept.is_none() {
+                return Err(RegistryError::NeedsDriver);
             }
-            let old = match (self.found(kind, &name), replaces) {
-                (Ok(_), false) => return Err(RegistryError::NameTaken),
-                (old, _) => old.ok(),
-            };
-            if replaces && old.is_none() {
-                return Err(RegistryError::NotFound);
+            let old = self.found(kind, &name);
+            match (old, replaces) {
+                (Ok(_), false) => Err(RegistryError::NameTaken),
+                (Err(none), true) => Err(none),
+                _ => Ok((self.vacant().ok_or(RegistryError::NoSlot)?, old.ok())),
             }
-            Ok((self.slot()?, old))
         });
+        let made = made.map_err(why);
         let told = made.as_ref().map(|(made, old)| (made.slot, old.as_ref().map(Retired::entry)));
         assert_eq!(told.map_err(|why| *why), expected);
         if let Ok((entry, old)) = made {
             let gone = old.as_ref().map(|old| old.entry().number);
             gone.iter().for_each(|gone| self.detached(*gone));
             assert_eq!((entry.kind, entry.name), (kind, name));
-            self.attached(entry, kept.map(|driver| (driver.number, at)), gone);
+            let kept = kept.map(|driver| (driver.number, at.unwrap_or(CPUS)));
+            self.attached(entry, kept, gone);
             self.tokens.extend(old.map(Token::new));
         }
     }
@@ -665,7 +530,8 @@ impl<'cpu> Bench<'cpu> {
     }
 
     fn detach(&mut self) {
-        let ((at, cpu), (kind, name)) = (self.any_or_chosen(), self.any_key());
+        let (at, (kind, name)) = (self.any_or_chosen(), self.any_key());
+        let cpu = at.map(|at| &self.cpus[at]);
         let expected = self.before_change(at).and_then(|()| self.found(kind, &name));
         let (registry, key, retires) = (self.registry, (kind, &name), self.dice.below(2) == 0);
         let (mut freed, by_entry) = (Vec::new(), expected.ok().filter(|_| self.dice.below(3) == 0));
@@ -690,22 +556,6 @@ impl<'cpu> Bench<'cpu> {
         }
     }
 
-    /// What was listed before, or differs in anything, isn't detached by its name.
-    fn detach_another(&mut self) {
-        let (at, cpu) = self.any_cpu();
-        let place = self.dice.below(self.known.len().max(1));
-        if let Some(one) = self.known.get(place) {
-            let mut entry = one.entry;
-            entry.slot += u8::from(one.live);
-            let expected = self.before_change(at).and(Err(RegistryError::NotFound));
-            assert_eq!(cpu.detach_entry(&entry).map(drop).map_err(why), expected);
-            // One of another registry may have the same number.
-            let other = self.foreign.look_up("d0").unwrap();
-            let expected = self.before_change(at).and(Err(RegistryError::NotFound));
-            assert_eq!(cpu.detach_entry(&other).map(drop).map_err(why), expected);
-        }
-    }
-
     /// A turn on a retired entry, by each of the ways.
     fn work(&mut self) {
         let (at, cpu) = self.any_cpu();
@@ -722,7 +572,7 @@ impl<'cpu> Bench<'cpu> {
         if way == 4 {
             return self.await_it(token);
         }
-        let expected = if way == 2 && self.is_inside(at) {
+        let expected = if way == 2 && self.is_inside(Some(at)) {
             Some(RegistryError::Inside)
         } else {
             self.worked(number, (way == 2).then_some(at))
@@ -791,24 +641,16 @@ impl<'cpu> Bench<'cpu> {
         own.map(|cpu| Holder::Passive(cpu as u8)).or(holder).map(RegistryError::StillHeld)
     }
 
-    fn collect_or_perform(&mut self) {
-        let (at, cpu) = self.any_cpu();
-        if self.dice.below(2) == 0 {
-            let expected = self.collect();
-            return assert_eq!(numbers(&self.registry.free_deferred()), expected);
-        }
-        let waiting = (0..CPUS).find(|other| self.is_inside(*other));
-        let expected = self.before_change(at).and_then(|()| {
-            waiting.map_or(Ok(()), |other| Err(RegistryError::Waiting(other as u8)))
-        });
-        assert_eq!(cpu.synchronize(Patience::Turns(2)).map_err(why), expected);
+    fn free_deferred(&mut self) {
+        let expected = self.collect();
+        assert_eq!(numbers(&self.registry.free_deferred()), expected);
     }
 
     /// An interface goes before its driver.
     fn drain(&mut self) {
         let (at, cpu) = self.any_cpu();
         let drained = cpu.drain(Patience::Turns(1)).map_err(why);
-        assert_eq!(drained.as_ref().err().copied(), self.before_change(at).err());
+        assert_eq!(drained.as_ref().err().copied(), self.before_change(Some(at)).err());
         if let Ok(drained) = drained {
             let mut live: Vec<u64> =
                 self.known.iter().filter(|one| one.live).map(|one| one.entry.number).collect();
@@ -833,27 +675,13 @@ impl<'cpu> Bench<'cpu> {
         }
     }
 
-    /// By all CPUs, those of the pool among them.
     fn audit(&mut self) {
-        let rest: Vec<LentCpu<'_, Tracked>> = std::iter::from_fn(|| self.pool.try_lend()).collect();
-        let lent = self.loans.iter().chain(&rest).map(|loan| -> &Cpu<Tracked> { loan });
-        let audited = self.registry.audit(self.cpus.iter().chain(lent)).unwrap();
-        self.release_dropped(0, None);
+        let audited = self.registry.audit(self.cpus).unwrap();
+        self.release_dropped(None);
         self.known.sort_by_key(|one| one.entry.slot);
-        assert_eq!(audited.len(), self.known.len());
-        for (told, one) in audited.iter().zip(&self.known) {
-            let held = self.held(one.entry.number) as i64;
-            assert_eq!(
-                (told.slot, told.number, told.held),
-                (one.entry.slot, one.entry.number, held)
-            );
-            assert!(
-                told.locals == one.net || !one.live && told.locals == [0; ALL],
-                "{told:?}, not {:?}",
-                one.net
-            );
-            assert_eq!(told.locals.iter().sum::<i64>() + told.total, held);
-        }
+        let held = |one: &Known| (one.entry.slot, one.entry.number, self.held(one.entry.number));
+        let told = audited.iter().map(|told| (told.slot, told.number, told.held as usize));
+        assert_eq!(told.collect::<Vec<_>>(), self.known.iter().map(held).collect::<Vec<_>>());
     }
 
     /// Who holds each entry, by the CPU: sections, passive references, local ones.
@@ -884,103 +712,22 @@ impl<'cpu> Bench<'cpu> {
     }
 }
 
-/// The pool, and handles of two registries.
-impl<'cpu> Bench<'cpu> {
-    fn lend(&mut self) {
-        let (pool, is_idle) = (self.pool, self.loans.len() < POOLED);
-        let lent = match self.dice.below(3) {
-            0 => pool.try_lend(),
-            1 => pool.lend_until(Instant::now()),
-            _ => is_idle.then(|| pool.lend()),
-        };
-        assert_eq!(lent.is_some(), is_idle);
-        self.loans.extend(lent);
-        let ids: BTreeSet<u8> =
-            self.loans.iter().filter(|loan| !loan.is_inside()).map(|loan| loan.id()).collect();
-        assert!(
-            ids.len() == self.loans.len()
-                && ids.iter().all(|id| (CPUS..ALL).contains(&usize::from(*id)))
-        );
-    }
-
-    /// A loan goes back outside, with a section that was forgotten, too.
-    fn use_loan(&mut self) {
-        let (kind, name) = self.any_key();
-        let mut loan = match self.dice.take(&mut self.loans) {
-            Some(loan) => loan,
-            None => return,
-        };
-        let at = usize::from(loan.id());
-        match self.dice.below(4) {
-            way @ 0..=1 => {
-                let entered = loan.enter().map_err(why);
-                let is_spent = self.is_spent(at, &entered);
-                mem::forget(entered);
-                assert_eq!(loan.is_inside(), !is_spent);
-                if way == 0 {
-                    loan.leave();
-                    assert_eq!(loan.depth(), 0);
-                    self.loans.push(loan);
-                }
-            }
-            2 => {
-                let got = loan.get_local((kind, &name)).map_err(why);
-                drop(loan);
-                self.got_local(at, kind, &name, got);
-            }
-            _ => drop(loan),
-        }
-    }
-
-    /// Each call that takes two handles is refused where they are of two registries, and gives back
-    /// what it was given.
-    fn mix(&mut self) {
-        let (other, drops, (_, name)) = (self.foreign, self.drops, self.any_key());
-        if let Some(Token { retired, waits }) = self.tokens.pop() {
-            let error = retired.destroy_on(other, Patience::Forever).unwrap_err();
-            self.tokens.push(Token { retired: error.given, waits });
-            assert_eq!(why(error.refusal), RegistryError::OtherRegistry);
-        }
-        if let Some(held) = self.locals.pop() {
-            // As if it were dropped.
-            let at = held.of;
-            self.known(held.number()).dropped.push(at);
-            LocalRef::release(held.local, other);
-        }
-        let value = drops.make(0);
-        let iface = self.registry.attach((Kind::Iface, &name), value).unwrap_err();
-        let unnamed = self.cpus[0].replace("a name of 17 byte", iface.given).unwrap_err();
-        assert_eq!(
-            (why(iface.refusal), unnamed.refusal),
-            (RegistryError::NeedsDriver, kupaldiz::AttachError::BadName)
-        );
-        let _ = self.before_attach(CHOSEN);
-        let _ = self.before_attach(0);
-        assert!(self.cpus[0].look_up("").is_err() && self.registry.detach("").is_err());
-        self.begun[0] += u64::from(!self.is_inside(0));
-        let _ = self.before_change(CHOSEN);
-    }
-}
-
 impl Bench<'_> {
     fn step(&mut self) {
-        match self.dice.below(24) {
+        match self.dice.below(20) {
             0..=2 => self.enter_or_exit(),
-            3 => self.find_two(),
-            4 => self.acquire_by_guard(),
+            3 | 4 => self.find_two(),
             5 => self.walk(),
             6..=8 => self.refer(),
             9..=11 => self.release(),
             12..=14 => self.attach(),
-            15 => self.detach(),
-            16 => self.detach_another(),
-            17..=18 => self.work(),
-            19 => self.collect_or_perform(),
-            20 => self.lend(),
-            21 => self.use_loan(),
-            22 => self.mix(),
-            _ if self.dice.below(8) == 0 => self.drain(),
-            _ => self.audit(),
+            15 | 16 => self.detach(),
+            17 | 18 => self.work(),
+            _ => match self.dice.below(8) {
+                0 => self.drain(),
+                1..=4 => self.free_deferred(),
+                _ => self.audit(),
+            },
         }
         self.holders();
         self.tasks();
@@ -1001,67 +748,36 @@ impl Bench<'_> {
     }
 }
 
-thread_local! {
-    /// The refusals that came.
-    static CAME: RefCell<BTreeSet<String>> = RefCell::default();
-}
-
-fn why(error: impl Into<RegistryError>) -> RegistryError {
-    let refusal = common::why(error);
-    let text = format!("{refusal:?}");
-    CAME.with(|came| came.borrow_mut().insert(text.split('(').next().unwrap().to_string()));
-    refusal
-}
-
 /// The numbers of what was freed, in its order.
 fn numbers(freed: &[Freed<Tracked>]) -> Vec<u64> {
     freed.iter().for_each(|freed| freed.value.check());
     freed.iter().map(|freed| freed.entry.number).collect()
 }
 
-/// Low limits. Some are as high as they may be.
-fn settings(seed: u64, slots: usize) -> Settings {
-    let count = |divisor: u64| [1, 2, 3, LIMITS.count][(seed / divisor % 4) as usize];
-    let changes = if seed % 5 == 0 { 60 } else { LIMITS.changes };
-    let sections = if seed % 3 == 0 { 30 } else { LIMITS.sections };
-    Settings::new(CHOSEN as u8, slots as u8)
-        .changes(changes)
-        .sections(sections)
-        .passives(count(1))
-        .locals(count(2))
-}
-
 /// So many random calls.
 fn run(seed: u64, steps: usize) {
-    let (drops, of_others) = (Drops::default(), Drops::default());
-    let (_other, others) = opened(Settings::new(1, 1));
-    others[0].attach("d0", of_others.make(0)).unwrap();
     let (slots, names) = if seed % 4 < 2 { FEW } else { MANY };
-    let settings = settings(seed, slots);
+    let settings = Settings::new(CPUS as u8, slots);
     let open = if seed % 2 == 0 { Registry::open_tracked } else { Registry::open };
-    let registry = open(settings).unwrap();
-    let mut cpus: Vec<_> = (0..CHOSEN as u8).filter_map(|id| registry.cpu(id)).collect();
-    let pool = CpuPool::new(cpus.drain(CPUS..)).unwrap();
+    let (registry, drops) = (open(settings).unwrap(), Drops::default());
+    let cpus = registry.cpus();
     let mut bench = Bench {
         registry: &registry,
         cpus: &cpus,
-        pool: &pool,
-        foreign: &others[0],
         drops: &drops,
-        settings,
+        slots,
+        names,
         dice: Dice::of(seed),
-        open: (0..ALL).map(|_| Vec::new()).collect(),
-        begun: [0; ALL],
-        last: [None; ALL],
+        open: [(); CPUS].map(|()| None),
+        begun: [0; CPUS],
+        last: [None; CPUS],
         passives: Vec::new(),
         locals: Vec::new(),
         clones: Vec::new(),
-        loans: Vec::new(),
         tokens: Vec::new(),
         deferred: Vec::new(),
         known: Vec::new(),
         vacated: Vec::new(),
-        names,
         changes: 0,
         labels: 0,
         drivers: Vec::new(),
@@ -1071,9 +787,9 @@ fn run(seed: u64, steps: usize) {
     let drivers = mem::take(&mut bench.drivers);
     drop(bench);
     let registry = registry.close(Patience::Turns(2)).unwrap_err().given;
-    drop((cpus, pool));
+    drop(cpus);
     registry.close(Patience::Turns(1)).unwrap();
-    assert_eq!((drops.made(), of_others.dropped()), (drops.dropped(), 0));
+    assert_eq!(drops.made(), drops.dropped());
     let order: HashMap<u64, usize> = common::dropped_here().into_iter().zip(0..).collect();
     assert!(
         drivers.iter().all(|(iface, driver)| order[iface] < order[driver]),
@@ -1083,21 +799,13 @@ fn run(seed: u64, steps: usize) {
 
 #[test]
 fn each_answer_is_the_models() {
-    for seed in 1..=20u64 {
-        run(seed, scaled(3000));
-    }
-    let came: Vec<String> = CAME.with(RefCell::take).into_iter().collect();
-    let all = "HistoryFull Inside LocalFull NameTaken NeedsDriver NoSlot NotFound OtherRegistry \
-        PassiveFull SectionsSpent StillHeld Waiting";
-    assert!(came.join(" ") == all || scaled(100) < 100, "of the refusals these came: {came:?}");
+    (1..=20).for_each(|seed| run(seed, scaled(3000)));
 }
 
 /// Registries on threads beside each other have nothing in common.
 #[test]
 fn each_answer_is_the_models_on_threads() {
     std::thread::scope(|scope| {
-        for seed in 101..=104u64 {
-            scope.spawn(move || run(seed, scaled(6000)));
-        }
+        (101..=104).for_each(|seed| drop(scope.spawn(move || run(seed, scaled(6000)))));
     });
 }
