@@ -10,7 +10,7 @@ processor is proved after it, and left in out/PROCESSOR with what the proof said
 compiler. The last line is that of `rt ci` with a check more for each processor.
 
 Where there are four processors or more, `rt ci` gets all but one, since its longest chain of checks leaves some of them idle. On the last one
-`tools/try-edits.py gate` tries the edits of each crate that was proved, until `rt ci` ends. It keeps what is refused, and the gate tries the others afterwards.
+`tools/edits.py gate` tries the edits of each crate that was proved, until `rt ci` ends. It keeps what is refused, and the gate tries the others afterwards.
 """
 import collections
 import contextlib
@@ -114,7 +114,7 @@ def on(processors):
 
 def try_edits(crate, processor):
     """Tries the gate's edits of a crate on one processor."""
-    words = [*NICE, *on([processor]), "tools/try-edits.py", "gate", crate]
+    words = [*NICE, *on([processor]), "tools/edits.py", "gate", crate]
     with started(words, cwd=ROOT, stdout=subprocess.DEVNULL, stderr=subprocess.DEVNULL) as ran:
         ran.wait()
 

@@ -37,7 +37,7 @@ sys.exit(gate(
     # Every proof of the crates, except what an earlier run on this machine proved of the same files, and every test.
     [Part("rt ci, and the archive", "tools/archive-beside.py rt ci")],
     # Wrong bodies, over the libraries that were proved.
-    [Part("edits", "tools/try-edits.py gate")],
+    [Part("edits", "tools/edits.py gate")],
     # What stands outside of Rattle, over the program and the archive that were proved.
     [Part("clients are built", f"{FACE} build")],
     [
@@ -55,6 +55,6 @@ sys.exit(gate(
         Part("examples", f"tools/run-examples.py --program {PROGRAM}"),
         Part("conformance kit", "tools/conformance.py test"),
         Part("pictures", "tools/picture.py check"),
-        Part("the tools themselves", "tools/test-tools.py --gate"),
+        Part("the tools themselves", "tools/test-tools.py"),
     ],
 ))
