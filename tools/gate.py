@@ -54,7 +54,7 @@ sys.exit(gate(
         Part("program", "tools/test-program.py"),
         Part("examples", f"tools/run-examples.py --program {PROGRAM}"),
         Part("conformance kit", "tools/conformance.py test"),
-        Part("pictures", "tools/picture.py check"),
+        Part("pictures", "tools/draw.py check"),
         Part("the tools themselves", "tools/test-tools.py"),
     ],
 ))
