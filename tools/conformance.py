@@ -27,6 +27,8 @@ from other_registry import FAULTS, Registry, report_of
 from parts import counted, ended, processors
 
 PROGRAM = ROOT / "crates/registry_run/out/registry_run"
+# So many scripts are written for a test.
+SCRIPTS = 150
 
 ATTACHES = "attached Inside NeedsDriver NameTaken NoSlot HistoryFull"
 # Of each command how often it comes, its arguments, by the methods of a Writer that choose them, and what it may answer. NotHeld isn't among that: a label
@@ -264,37 +266,35 @@ def failures_of_driver(command, folder, scripts, reports):
 
 
 def checks_of_driver(command, folder, scripts):
-    """The two checks of a driver, with what fails."""
+    """The two checks of a driver, each with what fails."""
     driven = list(are_for_faces(scripts))
     found = failures_of_driver(command, folder, driven, list(reports_of(driven)))
-    print(f"{command}: {len(driven)} of {len(scripts)} scripts")
-    yield f"{command} prints each report", next(filter(None, found), "")
+    yield f"{command} prints each report of {len(driven)} scripts", next(filter(None, found), "")
     yield f"{command} runs most scripts", "" if len(driven) > len(scripts) / 2 else f"only {len(driven)} of {len(scripts)}"
 
 
+def checks_of(commands, folder):
+    """Each check with what fails, or ''."""
+    _, never, strange = write_kit(folder, argparse.Namespace(seed=1, scripts=SCRIPTS, lines=150), set(COMMANDS))
+    rng, scripts = random.Random(1), [path.read_text() for path in sorted(folder.glob("*.txt"))]
+    yield "the scripts meet each answer", f"never met: {never}, not in the list: {strange}" if never or strange else ""
+    yield "another registry has each report", "it has another one" if is_told(folder) else ""
+    yield from ((f"a fault is found: {fault}", "" if is_told(folder, fault) else "no script finds it") for fault in FAULTS)
+    # Without a built program these would take too long.
+    changed = [with_a_byte_changed(it, rng) for it in rng.choices(scripts, k=800)] if PROGRAM.exists() else []
+    large = [Writer(rng, set(COMMANDS), is_large=True).script(1500) for _ in range(50)] if PROGRAM.exists() else []
+    yield "both engines print the same and end alike", first_apart([*scripts, *changed, *large]) or ""
+    for command in commands:
+        yield from checks_of_driver(command, folder, [*scripts, *large])
+
+
 def test(options):
-    commands = options.command
-    options = argparse.Namespace(seed=1, scripts=150, lines=150)
+    passed = failed = 0
     with tempfile.TemporaryDirectory() as name:
-        folder = pathlib.Path(name)
-        _, never, strange = write_kit(folder, options, set(COMMANDS))
-        rng, scripts = random.Random(1), [path.read_text() for path in sorted(folder.glob("*.txt"))]
-        changed = [with_a_byte_changed(it, rng) for it in rng.choices(scripts, k=800)]
-        large = [Writer(rng, set(COMMANDS), is_large=True).script(1500) for _ in range(50)]
-        # Without a built program these would take too long.
-        apart = first_apart(scripts + (changed + large if PROGRAM.exists() else []))
-        checks = {"the scripts meet each answer": not never and not strange, "another registry has each report": not is_told(folder)}
-        checks["both engines print the same and end alike"] = not apart
-        checks.update((f"a fault is found: {fault}", is_told(folder, fault)) for fault in FAULTS)
-        for command in commands:
-            for check, fault in checks_of_driver(command, folder, scripts + (large if PROGRAM.exists() else [])):
-                checks[check], apart = not fault, apart or fault
-    for check, passed in checks.items():
-        print(f"{'ok     ' if passed else 'FAILED '} {check}")
-    if apart:
-        print(apart)
-    passed = sum(checks.values())
-    return ended(passed, len(checks) - passed)
+        for check, fault in checks_of(options.command, pathlib.Path(name)):
+            print(f"FAILED  {check}: {fault}" if fault else f"ok      {check}", flush=True)
+            passed, failed = passed + (not fault), failed + bool(fault)
+    return ended(passed, failed)
 
 
 def main():

@@ -37,7 +37,8 @@ BY_ROWS = ("script_tests", "registry_run")
 # What a check says of a function, of a goal that isn't proved, of code that it can't read, and as it ends. A fault of a proof that names what an edit took
 # away says nothing of the edit.
 STATE = re.compile(r"^fn (\S+): (.*)$", re.M)
-GOAL = re.compile(r"^(?:note: |\./)?((?:src|specs|proofs)/\S+:\d+:\d+: (?!.*(?:has no field|is not in scope|has no `|was not admitted)).*(?:not proved|error).*)$", re.M)
+GONE = r"has no field|is not in scope|has no `|was not admitted"
+GOAL = re.compile(rf"^(?:note: |\./)?((?:src|specs|proofs)/\S+:\d+:\d+: (?!.*(?:{GONE})).*(?:not proved|error).*)$", re.M)
 UNREAD = re.compile(r"^(?:\./)?(?:src|specs)/\S+: error.*|^error\[.*", re.M)
 ENDED = re.compile(r"^only=.*\Z", re.M)
 Change = collections.namedtuple("Change", "path old new")
@@ -112,16 +113,12 @@ def asked_for(edit):
 
 def rounds(edits):
     """The edits as they are tried, one check a round: bodies of several functions together, and what changes anything else alone."""
-    found, alone = collections.defaultdict(list), []
-    seen = collections.Counter()
+    found, seen = collections.defaultdict(list), collections.Counter()
     for edit in edits:
-        names = tuple(asked_for(edit))
-        if function_of(edit) and "    only: " not in edit.text:
-            found[seen[names]].append(edit)
-            seen[names] += 1
-        else:
-            alone.append([edit])
-    return [*found.values(), *alone]
+        function = None if "    only: " in edit.text else function_of(edit)
+        found[seen[function] if function else edit].append(edit)
+        seen[function] += 1
+    return list(found.values())
 
 
 def check(edits, kept):
@@ -165,14 +162,21 @@ def by_prover(crate, edits):
                     waiting.append([edit])
 
 
+def test_runs(crate):
+    """The runs that may refuse an edit for the tests of the crate: the command, its folder, and what it prints of a test that fails."""
+    if crate != "registry_run":
+        yield ["rt", "try", "--test"], f"crates/{crate}", r"^test (\S+).* FAILED$"
+    if crate in BY_ROWS:
+        yield ["tools/test-program.py", "--try"], ".", r"^(.+):\n  wanted "
+
+
 def by_test(edit):
     """What refuses the edit, or what is wrong, by the tests of its crate in a copy of the tree, or by the program's rows."""
-    with tempfile.TemporaryDirectory() as folder:
-        tree = pathlib.Path(shutil.copytree(ROOT, f"{folder}/tree", ignore=shutil.ignore_patterns(".git", "out")))
+    with tempfile.TemporaryDirectory() as room:
+        tree = pathlib.Path(shutil.copytree(ROOT, f"{room}/tree", ignore=shutil.ignore_patterns(".git", "out")))
         if misfit := apply(edit, tree)[1]:
             return "", f"NOT TRIED: {misfit}"
-        for command, folder, failed in ((["rt", "try", "--test"], f"crates/{edit.crate}", r"^test (\S+).* FAILED$"), (["tools/test-program.py", "--try"], ".", r"^(.+):\n  wanted "))[
-                edit.crate == "registry_run":1 + (edit.crate in BY_ROWS)]:
+        for command, folder, failed in test_runs(edit.crate):
             ran = subprocess.run(command, cwd=tree / folder, stdout=subprocess.PIPE, stderr=subprocess.STDOUT, text=True, errors="replace")
             if told := re.findall(failed, ran.stdout, re.M):
                 return ", ".join(told[:3]), ""
@@ -240,7 +244,7 @@ def main(first=None, *others):
     if first == "gate":
         wanted = [it for crate in others or CRATES for it in edits_of(crate, GATE)] + ([] if others else list(sample()))
     else:
-        wanted = [it for word in (CRATES if first == "all" else (first, *others)) for it in (named(word) if first != "all" else edits_of(word))]
+        wanted = [it for crate in CRATES for it in edits_of(crate)] if first == "all" else [it for word in (first, *others) for it in named(word)]
     of = collections.defaultdict(list)
     for edit in wanted:
         of[edit.crate].append(edit)

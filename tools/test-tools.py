@@ -149,7 +149,7 @@ CONFORMANCE = Case("conformance run", TOOLS, KIT, ["./run"], [
         ("one with a wrong status", "0000.txt: status 3", "exec tools/other_registry.py", "tools/other_registry.py; exit 3")),
     Fault("a script without its report", "0002.report", command=["./without"]), Fault("an empty folder", "0 passed, 1 failed", command=["./run", "empty"])])
 # A few scripts, and none with a byte changed: that other registry knows no faults.
-FEW = "s/^        apart = .*/        apart, large = None, []/; s/scripts=150/scripts=8/; s/not never and not/not/; s/ in FAULTS)$/ in ())/"
+FEW = "s/^SCRIPTS = .*/SCRIPTS = 8/; s/if never or strange/if strange/; s/ in FAULTS)$/ in ())/; s/if PROGRAM.exists() else/if False else/"
 DRIVEN = Case("conformance test", TOOLS, KIT, ["sh", "-c", f"sed -i '{FEW}' tools/conformance.py; exec tools/conformance.py test ./driver './driver more'"], [
     *of("driver", ("a driver that is wrong", "FAILED  ./driver prints each report", "exec tools/other_registry.py", "tools/other_registry.py newest-slot"),
         ("one that ends with another status", "FAILED  ./driver prints each report", "exec tools/other_registry.py <\"$path\"", "tools/other_registry.py <\"$path\"; exit 1")),
