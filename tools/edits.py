@@ -135,6 +135,13 @@ def check(edits, kept):
         return ran.stdout.rstrip()
 
 
+def is_of(goal, edit, paths):
+    """Whether a goal is in the body of the edit's function, or in the proofs of one of these."""
+    place, function = re.match(r"(\S+?):(\d+):", goal), function_of(edit)
+    is_in_body = function and function.path.as_posix().endswith(f"/{edit.crate}/{place[1]}") and function.first < int(place[2]) <= function.last + 1
+    return is_in_body or any(goal.startswith(f"proofs/{'/'.join(path.split('::')[1:])}/") for path in paths)
+
+
 def judged(edit, said, is_alone):
     """What refuses the edit, or '', and else what is wrong, by what a check said. Of an edit tried beside others a goal of its own function must say it."""
     own = {path: state for path, state in STATE.findall(said) if any(f"::{path}".endswith(f"::{it}") for it in asked_for(edit))}
@@ -142,7 +149,7 @@ def judged(edit, said, is_alone):
         return "", f"NOT TRIED: {next(iter(UNREAD.findall(said)), said[-300:])}"
     if all(state == "proved" for state in own.values()):
         return "", f"NOT REFUSED: {', '.join(own)} still proved"
-    found = [it for it in GOAL.findall(said) if is_alone or any(it.startswith(f"proofs/{'/'.join(path.split('::')[1:])}/") for path in own)]
+    found = [it for it in GOAL.findall(said) if is_alone or is_of(it, edit, own)]
     found += [state for state in own.values() if state.startswith("no proof")]
     return (found[0][:200], "") if found else ("", "NOT TRIED: it is refused only because a proof names what it took away")
 
