@@ -3,27 +3,32 @@
 
     tools/conformance.py write FOLDER [--seed N] [--scripts N] [--lines N] [--only COMMAND,..]
     tools/conformance.py run FOLDER PROGRAM [ARGUMENT]..
-    tools/conformance.py test
+    tools/conformance.py test [COMMAND]..
 
 `write` makes NNNN.txt and, by the program's engine `core`, NNNN.report; it says which answers they met, and which they never did. `run` gives each
 script to a program on its standard input, and compares what it prints with the report. `test` writes scripts, compares the reports with those of another
 registry, tools/other_registry.py, and then once more with each of its faults, which some script must find. It also has both engines, `core` and `live`,
-run these scripts, and if the program is built larger ones, and some with a byte changed, which most often is a fault of the script. The last line of both
-is 'N passed, M failed'. The program is crates/registry_run/out/registry_run where it stands, else the same sources, compiled by `rt try` without a proof.
+run these scripts, and if the program is built larger ones, and some with a byte changed, which most often is a fault of the script. Each COMMAND, as a driver of
+the library in C or Rust, gets the path of a script as its last argument, and must print its report, too. It gets all of these scripts except those that
+are_for_faces leaves out. The last line of both is 'N passed, M failed'. The program is crates/registry_run/out/registry_run where it stands, else the same sources, compiled by `rt try` without a proof.
 """
 import argparse
 import collections
 import pathlib
 import random
 import re
+import shlex
 import sys
 import tempfile
+from concurrent.futures import ThreadPoolExecutor
 
 from engines import ROOT, ran, said_when_tried
-from other_registry import FAULTS, report_of
-from parts import counted, ended
+from other_registry import FAULTS, Registry, report_of
+from parts import counted, ended, processors
 
 PROGRAM = ROOT / "crates/registry_run/out/registry_run"
+# So many scripts are written for a test.
+SCRIPTS = 150
 
 ATTACHES = "attached Inside NeedsDriver NameTaken NoSlot HistoryFull"
 # Of each command how often it comes, its arguments, by the methods of a Writer that choose them, and what it may answer. NotHeld isn't among that: a label
@@ -223,25 +228,73 @@ def first_apart(scripts):
     return next((f"{script}\ncore: {by_core}\nlive: {by_live}" for script, by_core, by_live in said if by_core != by_live), None)
 
 
-def test(_):
-    options = argparse.Namespace(seed=1, scripts=150, lines=150)
+class Beyond(Exception):
+    """What C and Rust have no call for."""
+
+
+class OfFaces(Registry):
+    """The registry as C and Rust offer it: an interface is attached by the name of its driver, and not by a reference, so a reference is counted in the call.
+    So its driver is live, and the CPU may count one reference more."""
+
+    def plug(self, cpu, name, value, label):
+        driver = self.locals.get(label)
+        if driver and (driver.ended or driver.net[cpu] >= self.count_limit):
+            raise Beyond
+        return super().plug(cpu, name, value, label)
+
+
+def are_for_faces(scripts):
+    """The scripts, without a fault, that C and Rust have all calls for."""
+    for script in scripts:
+        try:
+            report_of(script, registry=OfFaces())
+            yield script
+        except Beyond:
+            pass
+
+
+def failures_of_driver(command, folder, scripts, reports):
+    """Of each script where a driver parts from its report, '' where it prints that."""
+    def one(place):
+        path = folder / f"driven-{place}"
+        path.write_text(scripts[place])
+        status, found, error = ran([*shlex.split(command), path])
+        return "" if (status, found) == (0, reports[place]) else f"status {status}: {first_difference(reports[place], found)} {error}\n{scripts[place]}"
+
+    with ThreadPoolExecutor(processors()) as pool:
+        return list(pool.map(one, range(len(scripts))))
+
+
+def checks_of_driver(command, folder, scripts):
+    """The two checks of a driver, each with what fails."""
+    driven = list(are_for_faces(scripts))
+    found = failures_of_driver(command, folder, driven, list(reports_of(driven)))
+    yield f"{command} prints each report of {len(driven)} scripts", next(filter(None, found), "")
+    yield f"{command} runs most scripts", "" if len(driven) > len(scripts) / 2 else f"only {len(driven)} of {len(scripts)}"
+
+
+def checks_of(commands, folder):
+    """Each check with what fails, or ''."""
+    _, never, strange = write_kit(folder, argparse.Namespace(seed=1, scripts=SCRIPTS, lines=150), set(COMMANDS))
+    rng, scripts = random.Random(1), [path.read_text() for path in sorted(folder.glob("*.txt"))]
+    yield "the scripts meet each answer", f"never met: {never}, not in the list: {strange}" if never or strange else ""
+    yield "another registry has each report", "it has another one" if is_told(folder) else ""
+    yield from ((f"a fault is found: {fault}", "" if is_told(folder, fault) else "no script finds it") for fault in FAULTS)
+    # Without a built program these would take too long.
+    changed = [with_a_byte_changed(it, rng) for it in rng.choices(scripts, k=800)] if PROGRAM.exists() else []
+    large = [Writer(rng, set(COMMANDS), is_large=True).script(1500) for _ in range(50)] if PROGRAM.exists() else []
+    yield "both engines print the same and end alike", first_apart([*scripts, *changed, *large]) or ""
+    for command in commands:
+        yield from checks_of_driver(command, folder, [*scripts, *large])
+
+
+def test(options):
+    passed = failed = 0
     with tempfile.TemporaryDirectory() as name:
-        folder = pathlib.Path(name)
-        _, never, strange = write_kit(folder, options, set(COMMANDS))
-        rng, scripts = random.Random(1), [path.read_text() for path in sorted(folder.glob("*.txt"))]
-        changed = [with_a_byte_changed(it, rng) for it in rng.choices(scripts, k=800)]
-        large = [Writer(rng, set(COMMANDS), is_large=True).script(1500) for _ in range(50)]
-        # Without a built program these would take too long.
-        apart = first_apart(scripts + (changed + large if PROGRAM.exists() else []))
-        checks = {"the scripts meet each answer": not never and not strange, "another registry has each report": not is_told(folder)}
-        checks["both engines print the same and end alike"] = not apart
-        checks.update((f"a fault is found: {fault}", is_told(folder, fault)) for fault in FAULTS)
-    for check, passed in checks.items():
-        print(f"{'ok     ' if passed else 'FAILED '} {check}")
-    if apart:
-        print(apart)
-    passed = sum(checks.values())
-    return ended(passed, len(checks) - passed)
+        for check, fault in checks_of(options.command, pathlib.Path(name)):
+            print(f"FAILED  {check}: {fault}" if fault else f"ok      {check}", flush=True)
+            passed, failed = passed + (not fault), failed + bool(fault)
+    return ended(passed, failed)
 
 
 def main():
@@ -256,6 +309,7 @@ def main():
         writing.add_argument(f"--{name}", type=int, default=number)
     writing.add_argument("--only", help="the commands that a program has, with commas between")
     running.add_argument("program", nargs=argparse.REMAINDER)
+    testing.add_argument("command", nargs="*")
     options = parser.parse_args()
     sys.exit(options.act(options))
 

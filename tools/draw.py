@@ -3,8 +3,11 @@
 
     tools/draw.py make      writes each picture
     tools/draw.py record    runs the commands of each recording anew, and writes what they print
-    tools/draw.py check     writes nothing, and looks whether each is what its text makes, whether a
-                            page shows it, and with its text for who can't see it. It ends with
+    tools/draw.py check     writes nothing, and looks whether each is what its text makes, and whether a
+                            page shows it, with its text for who can't see it. Also whether
+                            examples/NAME.svg has each command of NAME.txt and then each line of its
+                            report, in their order, and docs/layers.svg the crates of crates.txt, each
+                            with an arrow to each of the nearest that it stands on. It ends with
                             'N passed, M failed'
 
 The first lines of a text are its title, its size and its text for who can't see it:
@@ -33,6 +36,7 @@ import subprocess
 import sys
 import tempfile
 
+from kit import listed
 from parts import ROOT, counted
 
 FOLDER = ROOT / "docs/pictures"
@@ -112,19 +116,21 @@ def drawn_line(line):
     raise ValueError(f"what is this: {line}")
 
 
+def whole(title, alt, width, height, style, marks, made):
+    """The picture around what was made."""
+    return (f'<svg xmlns="http://www.w3.org/2000/svg" width="{width}" height="{height}" viewBox="0 0 {width} {height}" role="img">\n'
+            f"<title>{html.escape(title)}</title>\n<desc>{html.escape(alt)}</desc>\n<style>\n{style}</style>\n{marks}"
+            f'<rect class="paper" width="100%" height="100%"/>\n<text x="14" y="26" class="title">{html.escape(title)}</text>\n{made}</svg>\n')
+
+
 def picture(text):
     """The picture that a text makes, and its text for who can't see it."""
     lines = [it for it in text.splitlines() if it and not it.startswith("#")]
     title, size, alt = (it.partition(" ")[2] for it in lines[:3])
     width, height = size.split()
-    parts = [
-        f'<svg xmlns="http://www.w3.org/2000/svg" width="{width}" height="{height}" viewBox="0 0 {width} {height}" role="img">\n',
-        f"<title>{html.escape(title)}</title>\n<desc>{html.escape(alt)}</desc>\n<style>\n{style()}</style>\n",
-        '<marker id="tip" viewBox="0 0 8 8" refX="7" refY="4" markerWidth="7" markerHeight="7" orient="auto">'
-        '<path class="tip" d="M0 0L8 4L0 8z"/></marker>\n<rect class="paper" width="100%" height="100%"/>\n',
-        f'<text x="14" y="26" class="title">{html.escape(title)}</text>\n',
-    ]
-    return "".join([*parts, *map(drawn_line, lines[3:]), "</svg>\n"]), alt
+    tip = ('<marker id="tip" viewBox="0 0 8 8" refX="7" refY="4" markerWidth="7" markerHeight="7" orient="auto">'
+           '<path class="tip" d="M0 0L8 4L0 8z"/></marker>\n')
+    return whole(title, alt, width, height, style(), tip, "".join(map(drawn_line, lines[3:]))), alt
 
 
 def recorded(text):
@@ -143,10 +149,7 @@ def recorded(text):
                   f'style="animation-delay: {moment:.1f}s">{html.escape(row)}</text>\n')
     moves = (".code { animation: come 0.2s both } @keyframes come { from { opacity: 0 } to { opacity: 1 } }\n"
              "@media (prefers-reduced-motion) { .code { animation: none } }\n")
-    return (f'<svg xmlns="http://www.w3.org/2000/svg" width="{width}" height="{height}" viewBox="0 0 {width} {height}" role="img">\n'
-            f"<title>{html.escape(title)}</title>\n<desc>{html.escape(alt)}</desc>\n<style>\n{style()}{moves}</style>\n"
-            f'<rect class="paper" width="100%" height="100%"/>\n<text x="14" y="26" class="title">{html.escape(title)}</text>\n'
-            f"{made}</svg>\n"), alt
+    return whole(title, alt, width, height, style() + moves, "", made), alt
 
 
 def run_anew(text):
@@ -167,26 +170,17 @@ def run_anew(text):
     return "\n".join(lines) + "\n"
 
 
-def drawn(path):
-    """The picture that a file makes, and its text for who can't see it."""
-    return (recorded if path.suffix == ".term" else picture)(path.read_text())
-
-
-def sources():
-    return sorted(it for it in FOLDER.glob("*") if it.suffix in (".txt", ".term"))
-
-
-def shown():
-    """Each picture of the folder that a page shows, with its text there."""
-    pages = [page for form in PAGES for page in sorted(ROOT.glob(form))]
-    return {((page.parent / name).resolve(), alt) for page in pages for name, alt in IMAGE.findall(page.read_text())}
+def drawn():
+    """Each file that a picture is made of, with the picture, and its text for who can't see it."""
+    for path in sorted(it for it in FOLDER.glob("*") if it.suffix in (".txt", ".term")):
+        yield path, *(recorded if path.suffix == ".term" else picture)(path.read_text())
 
 
 def faults():
     """What is wrong with each picture, or ''."""
-    there = shown()
-    for text in sources():
-        made, alt = drawn(text)
+    pages = [page for form in PAGES for page in sorted(ROOT.glob(form))]
+    there = {((page.parent / name).resolve(), alt) for page in pages for name, alt in IMAGE.findall(page.read_text())}
+    for text, made, alt in drawn():
         file = text.with_suffix(".svg")
         name = file.relative_to(ROOT)
         yield "" if file.is_file() and file.read_text() == made else f"{name}: tools/draw.py make makes another one"
@@ -194,15 +188,48 @@ def faults():
         yield "" if alts == {alt} else f"{name}: no page shows it, or with another text than the one after 'alt'"
 
 
+def lacking(lines, texts):
+    """The first of the lines that the texts don't have in this order, if any."""
+    left = iter(texts)
+    return next((line for line in lines if line not in left), "")
+
+
+def examples():
+    """What is wrong with each picture of examples/."""
+    for path in sorted((ROOT / "examples").glob("*.svg")):
+        texts = [html.unescape(it) for it in re.findall(r"<text[^>]*>([^<]*)</text>", path.read_text())]
+        script = path.with_suffix(".txt")
+        said, _, report = (script.read_text() if script.is_file() else f"there is no {script.name}").partition("\n# It prints:\n")
+        commands = [it for it in said.splitlines() if it and not it.startswith("#")]
+        missing = lacking(commands, texts) or lacking([it.removeprefix("# ") for it in report.splitlines()], texts)
+        yield f"examples/{path.name}: it should say: {missing}" if missing else ""
+
+
+def nearest(crates):
+    """Of each crate the crates that it stands on, without those that another of them stands on."""
+    return {(crate, on) for crate, below in crates.items() for on in below if not any(on in crates.get(it, ()) for it in below)}
+
+
+def layers():
+    """What the picture of the layers lacks, or has too much of."""
+    crates = listed()
+    drawing = (ROOT / "docs/layers.svg").read_text()
+    boxes = set(re.findall(r'data-crate="(\w+)"', drawing))
+    arrows = set(re.findall(r'data-from="(\w+)" data-to="(\w+)"', drawing))
+    ours = {(crate, on) for crate, on in nearest(crates) if on in crates}
+    for kind, odd in (("crates", boxes ^ set(crates)), ("arrows", {f"{crate}-{on}" for crate, on in arrows ^ ours})):
+        yield f"docs/layers.svg, {kind}: {' '.join(sorted(odd))}" if odd else ""
+
+
 def main():
     if sys.argv[1:] == ["make"]:
-        for path in sources():
-            path.with_suffix(".svg").write_text(drawn(path)[0])
+        for path, made, _ in drawn():
+            path.with_suffix(".svg").write_text(made)
     elif sys.argv[1:] == ["record"]:
         for path in FOLDER.glob("*.term"):
             path.write_text(run_anew(path.read_text()))
     elif sys.argv[1:] == ["check"]:
-        sys.exit(counted(faults()))
+        sys.exit(counted([*faults(), *examples(), *layers()]))
     else:
         sys.exit(__doc__)
 

@@ -14,7 +14,8 @@ import sys
 
 import contracts
 from contracts import contract
-from edits import BY_HAND, GATE, ROOT, chosen, file_of, places
+from edits import CRATES, GATE, PROVER, ROOT, file_of, places
+from edits import edits_of as edits_of_crate
 from parts import ended
 
 PAGE = ROOT / "docs/MODEL.md"
@@ -134,7 +135,7 @@ def edits_of(step, tried):
     own += [edit for edit, path, line in tried if path.parent == WORDS / "src/operations" and (operation(path, line) or "?") in text]
     above = [edit for edit, path, line in tried if path.parent == LIST and any(
         it.first <= line <= it.last and re.search(rf"\b{body.name}\(", it.text) for it in functions_of(path))]
-    return [link(it.name, file_of(it.crate)) + (" *" if it.kind == BY_HAND else "") for it in dict.fromkeys(own or above)]
+    return [link(it.name, file_of(it.crate)) + (" *" if it.kind == PROVER else "") for it in dict.fromkeys(own or above)]
 
 
 def quoted(names):
@@ -143,7 +144,7 @@ def quoted(names):
 
 def rows():
     """All rows, in the order of the events: the cells of each."""
-    known, edits = events(), (edit for kind in (GATE, BY_HAND) for edit in chosen(kind, []))
+    known, edits = events(), (edit for kind in (GATE, PROVER) for crate in CRATES for edit in edits_of_crate(crate, kind))
     # Each edit for the prover, with each place in a source file that it changes.
     tried = [(edit, path, line) for edit in edits for path, line in places(edit) if path.suffix == ".rt"]
     made = list(steps(known))

@@ -22,6 +22,7 @@ if WORDS not in ([], ["--install"]):
 
 PROGRAM = "crates/registry_run/out/registry_run"
 FACE = "tools/test-face.sh --built"
+DRIVERS = "out/script out/rust/release/examples/script"
 
 sys.exit(gate(
     [Part("packages", ["tools/packages.py", *WORDS])],
@@ -37,7 +38,7 @@ sys.exit(gate(
     # Every proof of the crates, except what an earlier run on this machine proved of the same files, and every test.
     [Part("rt ci, and the archive", "tools/archive-beside.py rt ci")],
     # Wrong bodies, over the libraries that were proved.
-    [Part("edits", "tools/try-edits.py gate")],
+    [Part("edits", "tools/edits.py gate")],
     # What stands outside of Rattle, over the program and the archive that were proved.
     [Part("clients are built", f"{FACE} build")],
     [
@@ -53,8 +54,9 @@ sys.exit(gate(
         Part("manual page", f"{FACE} page"),
         Part("program", "tools/test-program.py"),
         Part("examples", f"tools/run-examples.py --program {PROGRAM}"),
-        Part("conformance kit", "tools/conformance.py test"),
-        Part("pictures", "tools/picture.py check"),
-        Part("the tools themselves", "tools/test-tools.py --gate"),
+        Part("pictures", "tools/draw.py check"),
+        Part("the tools themselves", "tools/test-tools.py"),
     ],
+    # Both engines, and the drivers of the library in C and Rust that the parts above built, on the same scripts.
+    [Part("conformance kit", f"tools/conformance.py test {DRIVERS}")],
 ))

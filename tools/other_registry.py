@@ -285,9 +285,9 @@ def carry_out(registry, words):
         return str(line)
 
 
-def report_of(script, fault=None):
-    """The report of a script, by a registry with this fault."""
-    registry = Registry(fault)
+def report_of(script, fault=None, registry=None):
+    """The report of a script, by a registry with this fault, or by this one."""
+    registry = registry or Registry(fault)
     commands = (line.split() for line in script.splitlines())
     return "".join(f"{carry_out(registry, words)}\n" for words in commands if words and not words[0].startswith("#"))
 

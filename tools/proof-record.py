@@ -80,7 +80,7 @@ def write(processor, limits, log, compiled, built):
     verdicts = VERDICT.findall(lines)
     if not verdicts or not verdicts[-1].startswith("logic=proved "):
         raise Fault(f"{log} has no last line that begins 'logic=proved': what was built isn't proved")
-    of, text = " ".join(chosen.words_of(chosen.said(limits))), pathlib.Path(limits).read_text()
+    of, text = " ".join(chosen.words_of(limits)), pathlib.Path(limits).read_text()
     if not lines.startswith(f"{BEGAN}{sum_of_files(proved(), text)}\n"):
         raise Fault(f"{log} is of a proof that began with other sources than those that stand")
     texts = (processor, of, said("rt", "version"), verdicts[-1], sum_of_sources(text), commit(), sum_of(compiled), sum_of(built))

@@ -83,13 +83,6 @@ found_by_cmake() {
     done
 }
 
-# Another version is asked for than the one that is there.
-refused_by_cmake() {
-    sed -i 's/find_package(kupaldiz 0.1/find_package(kupaldiz 0.9/' "$room/cmake/CMakeLists.txt"
-    ! cmake -S "$room/cmake" -B "$room/cmake/later" -DCMAKE_PREFIX_PATH="$stage$prefix" >"$room/said" 2>&1 &&
-        grep 'compatible with requested version "0.9"' "$room/said"
-}
-
 # What is installed with a .pc file that names no place, and moved: programs are built where it is now.
 moved() {
     made install PC_PREFIX='$${pcfiledir}/../..' && mv "$stage$prefix" "$room/moved" && stage=$room/moved prefix='' libdir=/lib PKG_CONFIG_SYSROOT_DIR='' in_place
@@ -219,16 +212,6 @@ leaves_nothing() {
     prints_nothing find "$stage" \( -type f -o -type l \) -o -type d -path '*/include/kupaldiz*' -o -type d -path '*/cmake/kupaldiz*' -o -type d -path '*/doc/kupaldiz*'
 }
 
-# has NAME FILE WORDS..: `nm` with these words lists a function of this name. It is read to its end: nm would fail where nobody reads on.
-has() {
-    nm "${@:2}" 2>/dev/null | grep -E " T $1(@|\$)" >/dev/null
-}
-
-# relinked MARK LIBRARY: what is installed has the function MARK, static and shared.
-relinked() {
-    has "$1" "$stage$libdir/$2.a" && has "$1" -D "$stage$libdir/$2.so"
-}
-
 # A copy of what is installed, which is changed as the work on it goes on: from here on it is what is installed from.
 copy_top() {
     local copy=$room/a\ copy
@@ -236,21 +219,6 @@ copy_top() {
     cp -r Makefile packaging c man netbsd explorer "$copy" || return
     cp out/libkupaldiz_proved.a "$copy/out" && cp -r crates/registry_c/include "$copy/crates/registry_c"
     top=$copy header=$copy/$header
-}
-
-# mark FILE NAME: a function more, which the maps name.
-mark() {
-    sed -i "0,/^\tglobal:/s//\tglobal:\n\t\t$2;/" "$top/packaging/kupaldiz.map" "$top/netbsd/netbsd.map"
-    printf '\nvoid %s(void);\nvoid %s(void)\n{\n}\n' "$2" "$2" >>"$1"
-}
-
-# A function more in each of three sources, and in the archive, as an object beside its own.
-mark_each() {
-    : >"$room/archive.c"
-    for source in "$room/archive.c" "$top"/{c/src/waiting/deferred.c,netbsd/src/psref.c,explorer/src/show.c}; do
-        mark "$source" "kupaldiz_mark_of_$(basename "$source" .c)" || return
-    done
-    gcc -fPIC -c -o "$room/mark.o" "$room/archive.c" && ar r "$top/out/libkupaldiz_proved.a" "$room/mark.o"
 }
 
 # The licence goes into each .pc file, and none is named as long as none is chosen.
@@ -302,7 +270,6 @@ check "a program of the pages' names for other CPUs doesn't link" refused_by_lin
 counted "programs over what is installed" made installcheck
 if command -v cmake >/dev/null; then
     check "CMake: find_package finds the libraries" found_by_cmake
-    check "CMake: it refuses another version" refused_by_cmake
 fi
 check "each call has a page" pages_are_found
 check "the change log names the version" grep -q "^## $(version)\$" "$stage$prefix/share/doc/kupaldiz/VERSIONS.md"
@@ -317,8 +284,7 @@ place() {
 }
 
 place "a folder of Debian's" /usr /usr/lib/x86_64-linux-gnu debian
-place "a path with blanks" "/usr/a place" "/usr/a place/lib" blanks
-place "a root with blanks" /usr /usr/lib "a root"
+place "a path with blanks" "/usr/a place" "/usr/a place/lib" "a root"
 
 prefix=/usr libdir=/usr/lib stage=$room/later
 older=$(version)
@@ -326,11 +292,6 @@ check "an upgrade: the older version" copy_top
 check "the words of a distribution are taken" flags_are_taken
 comes "an upgrade: "
 check "the licence is told once it is chosen" licence_is_told
-check "the archive and three sources are changed" mark_each
-check "they are installed anew" made install
-for mark in archive:libkupaldiz deferred:libkupaldiz psref:libkupaldiz_netbsd show:libkupaldiz_explorer; do
-    check "no stale object is linked: ${mark%:*}" relinked "kupaldiz_mark_of_${mark%:*}" "${mark#*:}"
-done
 check "an upgrade: the later version" sed -i -E 's/^(#define KUPALDIZ_VERSION_PATCH[[:blank:]]+).*/\17/' "$header"
 check "an upgrade: the later version's number" test "$(version)" = "${older%.*}.7"
 comes "an upgrade, over the older one: "

@@ -50,12 +50,12 @@ root() {
         mv "$roots/$name.tar.new" "$roots/$name.tar" || { rm -f "$roots/$name.tar.new"; return 1; }
 }
 
-# inside NAME: a copy of that root, with the release in /release, in which that part of tools/tests/release.sh is run: without a network, without anything else
+# inside NAME: a copy of that root, with the release in /release, in which that part of tools/try-release.sh is run: without a network, without anything else
 # of this machine.
 inside() {
     local name=$1 at=$room/$1
     rm -rf "$at"
-    mkdir -p "$at" && tar -C "$at" -xf "$roots/$name.tar" && mkdir -p "$at/release" && cp "$release"/* "$at/release" && cp tools/tests/release.sh "$at/try" || return
+    mkdir -p "$at" && tar -C "$at" -xf "$roots/$name.tar" && mkdir -p "$at/release" && cp "$release"/* "$at/release" && cp tools/try-release.sh "$at/try" || return
     if [ -n "${rust-}" ]; then
         mkdir -p "$at/rust"
     fi
