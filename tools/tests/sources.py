@@ -77,7 +77,7 @@ case("check-imports", ["check-imports.py", "parts.py"], IMPORTS, ["tools/check-i
 
 EDITS = "crates/cpu_words/wrong.edits"
 MADE, KEEPING = "crates/protocol/proofs/Made.antt", "crates/protocol/proofs/keeps/Keeping.antt"
-TABLED = ("crates/protocol/src/event.rt", "crates/protocol/specs/Events.antt", MADE, KEEPING, "crates/passive_core/src/machine/run.rt", "docs/MODEL.md",
+TABLED = ("crates/protocol/src/event.rt", "crates/protocol/specs/Events.antt", MADE, KEEPING, "crates/passive_core/src/machine/run.rt", "docs/EVENTS.md",
           "crates/passive_list/src/*.rt", "crates/passive_list/wrong.edits", "crates/cpu_words/src/steps/*.rt", "crates/cpu_words/src/operations/*.rt",
           "crates/cpu_words/proofs/steps/**/*.antt", "crates/cpu_words/proofs/operations/**/*.antt", EDITS)
 
@@ -93,6 +93,6 @@ case("event-table", TABLES, real(*TABLED), ["tools/event-table.py", "check"], [
     *of(DEFINITION, ("an event without a definition", "no definition", "guard (may_enter s c) (some_outcome (after_enter s c) Done)", "None")),
     *of(MADE, ("an event of which nothing says what it is", "no second lemma", "Made s (Enter c)", "Made s (Exit c)")),
     *of("crates/passive_core/src/machine/run.rt", ("an event that the machine doesn't make", "no method", "self.step_enter(c)", "enter(c)")),
-    *of("docs/MODEL.md", ("another word in the table", PAGE, "The CPU begins a section", "The CPU ends a section")),
+    *of("docs/EVENTS.md", ("another word in the table", PAGE, "The CPU begins a section", "The CPU ends a section")),
 ])
 check_limits()
