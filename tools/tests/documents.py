@@ -39,6 +39,8 @@ case("check-docs", ["check-docs.py", "errors.py", "facts.py", "parts.py"], DOCUM
     *of("README.md", ("a dead link", "README.md: links: no file docs/gone.md", "A [page](docs/page.md)", "A [page](docs/gone.md)"),
         ("a table that is cut off", "a table ends at:  | 1 2", "| 1 | 2 |", " | 1 2"),
         ("a line that is too long", "README.md: columns: line 4 has 137 columns", "is here.", f"is {'h' * 89}ere."),
+        ("a cell with too many words", "README.md: tables: line", "| 1 | 2 |", f"| 1 | {'2 ' * 11}|"),
+        ("too many cells", "README.md: tables: line", "| 1 | 2 |", "| 1 | 2 | 3 | 4 | 5 | 6 |"),
         ("a link that says nothing", "README.md: texts of links: 'more'", "[end](#the-end)", "[more](#the-end)"),
         ("a private word in a page for users", "line 4: 'seat': no private word", "is here.", "is here, by a seat.")),
     *of("docs/page.md", ("a dead heading", "no heading docs/page.md#the-part", "## The part", "## A part")),
