@@ -30,6 +30,7 @@ FOREIGN = {
     "arc-swap": "load_full",
     "crossbeam": "Collector register",
     "Debian": "libck",
+    "glibc": "tcache_count",
     "Rust": "HashMap RwLock",
     "earlier versions": "poll_lend",
     "libc and os of the kit": "chdir getcwd lseek rattle_arg rattle_env rattle_env_at rattle_errno rattle_set_errno",
