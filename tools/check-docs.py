@@ -1,8 +1,8 @@
 #!/usr/bin/env -S python3 -B
 """Finds what the documents name and the tree doesn't have: links to files and headings, and names in
-backquotes. Also tables that a line cuts off, links whose text doesn't say where they lead, lines
-that are too long, our private words on a page for users (PRIVATE), and numbers that differ from
-docs/facts (tools/facts.py).
+backquotes. Also tables that a line cuts off, rows with too many cells or words in one, links whose
+text doesn't say where they lead, lines that are too long, our private words on a page for users
+(PRIVATE), and numbers that differ from docs/facts (tools/facts.py).
 
     tools/check-docs.py            says what is wrong, and ends with 'N passed, M failed'
 
@@ -30,6 +30,7 @@ FOREIGN = {
     "arc-swap": "load_full",
     "crossbeam": "Collector register",
     "Debian": "libck",
+    "glibc": "tcache_count",
     "Rust": "HashMap RwLock",
     "earlier versions": "poll_lend",
     "libc and os of the kit": "chdir getcwd lseek rattle_arg rattle_env rattle_env_at rattle_errno rattle_set_errno",
@@ -58,11 +59,15 @@ PRIVATE = ((r"\b(?:seats?|ledgers?|deeds?|hears?|heard)\b", "no private word"),)
 # Pages for users, headers and manual pages among them.
 USERS = ("README.md", "bench/README.md", "packaging/VERSIONS.md", "packaging/INSTALL.md", "docs/C.md", "c/include/*.h*",
          "man/*.7", "man/kupaldiz*.in", "netbsd/include/kupaldiz/*.h", "rust/README.md", "crates/registry_c/include/kupaldiz.h",
-         "docs/CHOOSING.md", "docs/SCRIPTS.md", "docs/TUTORIAL-C.md", "docs/ERRORS.md", "docs/HOW-IT-WORKS.md", "docs/PROVED.md", "docs/RUST-RULES.md")
+         "docs/CHOOSING.md", "docs/SCRIPTS.md", "docs/TUTORIAL-C.md", "docs/ERRORS.md", "docs/HOW-IT-WORKS.md", "docs/PROVED.md", "docs/RUST-RULES.md",
+         "docs/NETBSD.md", "docs/HOWTO-DRIVERS.md", "docs/HOWTO-RUST.md", "explorer/README.md")
 # Pages that are still to be worked over: their prose has more columns, and links say nothing.
-ROUGH = ("bench/README.md", "docs/NETBSD.md",
-        "explorer/README.md")
+ROUGH = ("bench/README.md",)
 MOST_COLUMNS = 100
+# Pages whose tables are still to be worked over.
+LONG_TABLES = ("bench/README.md", "docs/GUARANTEES.md", "docs/PROOFS.md")
+MOST_CELLS, MOST_WORDS = 5, 10
+CELLS = re.compile(r"(?<!\\)\|")
 # A line that nothing can break.
 ONLY_CODE = re.compile(r"\s*`[^`]+`[.,:;]?")
 # Texts of a link that don't say where it leads.
@@ -122,6 +127,15 @@ def too_long(text):
             yield f"line {number} has {len(line)} columns"
 
 
+def too_wide(text):
+    """The rows of tables that have too many cells, or a cell with too many words."""
+    for number, line in enumerate(text.split("\n"), 1):
+        cells = CELLS.split(INLINE.sub(lambda link: link[0].partition("](")[0], line))[1:-1] if line.startswith("|") else []
+        longest = max((len(it.split()) for it in cells), default=0)
+        if len(cells) > MOST_CELLS or longest > MOST_WORDS:
+            yield f"line {number} has {len(cells)} cells, one of {longest} words"
+
+
 def without_code(text):
     """The text with empty lines for those of its code."""
     return FENCED.sub(lambda block: "\n" * block[0].count("\n"), text)
@@ -157,6 +171,8 @@ def checks_of(path, words):
         if not is_one_of(name, ROUGH):
             yield "columns", list(too_long(without_code(text)))
             yield "texts of links", [f"'{it}'" for it in TEXT.findall(prose) if it.lower() in EMPTY_TEXTS]
+        if not is_one_of(name, LONG_TABLES):
+            yield "tables", list(too_wide(without_code(text)))
     if is_one_of(name, USERS):
         yield "phrases", list(awkward(text, PRIVATE))
 

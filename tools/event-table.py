@@ -1,16 +1,18 @@
 #!/usr/bin/env -S python3 -B
-"""Makes the table of docs/MODEL.md from the sources: for each event its step, its contract, its lemmas and its wrong bodies.
+"""Makes the list of docs/EVENTS.md from the sources: for each event its step, its contract, its lemmas and its wrong bodies.
 
-    tools/event-table.py make     writes the table into docs/MODEL.md
+    tools/event-table.py make     writes the list into docs/EVENTS.md
     tools/event-table.py check    makes it again and compares
 
-A row is an event and a step of `cpu_words` that makes it. Every event needs a row; every row needs a definition, a lemma of each kind and an edit.
+A row of it is an event and a step of `cpu_words` that makes it. Every event needs a row; every row needs a definition, a lemma of each kind and an edit.
 The last line is 'N passed, M failed', and the status is 1 where one failed.
 """
 import collections
 import functools
+import itertools
 import re
 import sys
+import textwrap
 
 import contracts
 from contracts import contract
@@ -18,7 +20,7 @@ from edits import CRATES, GATE, PROVER, ROOT, file_of, places
 from edits import edits_of as edits_of_crate
 from parts import ended
 
-PAGE = ROOT / "docs/MODEL.md"
+PAGE = ROOT / "docs/EVENTS.md"
 BEGIN, END = "<!-- tools/event-table.py make -->\n\n", "\n<!-- end -->\n"
 TABLE = re.compile(f"{re.escape(BEGIN)}(.*?){re.escape(END)}", re.S)
 EVENTS = ROOT / "crates/protocol/src/event.rt"
@@ -27,7 +29,8 @@ MADE = ROOT / "crates/protocol/proofs/Made.antt"
 KEEPING = ROOT / "crates/protocol/proofs/keeps/Keeping.antt"
 MACHINE = ROOT / "crates/passive_core/src/machine/run.rt"
 WORDS = ROOT / "crates/cpu_words"
-HEAD = "| Event | What it does | Definition | Step | What its contract cites | Lemmas | Pure machine | Edits |"
+# What is listed of a row, after its event and what that does.
+LISTED = ("Definition", "Step", "Cited", "Lemmas", "Pure machine", "Edits")
 # What `step` uses for every event.
 SHARED = {"guard", "with_some", "some_outcome"}
 IMPORT = re.compile(r"use Rattle\.cpu_words\.((?:specs|proofs)\.[\w.]+)\.\{([^}]*)\}")
@@ -165,15 +168,25 @@ def faults(found):
         yield from (f"{cells[0]}, {cells[3]}: no {kind}" for kind in lacks)
 
 
+def filled(text, indent=""):
+    return textwrap.fill(text, 100, subsequent_indent=indent, break_long_words=False, break_on_hyphens=False)
+
+
+def section(event, rows_of_it):
+    """The heading of an event, what it does, and a list for each step that makes it."""
+    lists = ["\n".join(filled(f"- {kind}: {cell}", "  ") for kind, cell in zip(LISTED, cells[2:]) if cell) for cells in rows_of_it]
+    return "\n\n".join([f"### {event}", filled(f"{rows_of_it[0][1]}."), *lists]) + "\n"
+
+
 def main():
     if sys.argv[1:] not in (["make"], ["check"]):
         sys.exit(__doc__)
     page, found = PAGE.read_text(), list(rows())
-    made = "\n".join([HEAD, "|---" * 8 + "|", *("| " + " | ".join(cells) + " |" for cells in found)]) + "\n"
+    made = "\n".join(section(event, list(cells)) for event, cells in itertools.groupby(found, lambda it: it[0]))
     if sys.argv[1] == "make":
         page = TABLE.sub(lambda _: BEGIN + made + END, page)
         PAGE.write_text(page)
-    wrong = list(faults(found)) + ([] if TABLE.findall(page) == [made] else ["docs/MODEL.md: not as tools/event-table.py make writes it"])
+    wrong = list(faults(found)) + ([] if TABLE.findall(page) == [made] else ["docs/EVENTS.md: not as tools/event-table.py make writes it"])
     for fault in wrong:
         print(fault)
     sys.exit(ended(max(len(found) + 1 - len(wrong), 0), len(wrong)))

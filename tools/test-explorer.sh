@@ -41,13 +41,13 @@ run_example() {
         gcc -o "$room/a.out" "$room/test.o" "$out/plain/libexplorer.a" -pthread && (cd "$room" && ./a.out)
 }
 
-# The example of the README runs as it is there, and without its perform prints what is there.
+# The example of the README prints what is there, as it is and without its perform.
 example_as_told() {
     sed -n '/^```c$/,/^```$/p' "$folder/README.md" | sed '/^```/d' >"$room/test.c"
-    run_example || return
+    run_example >"$log.right" || return
     sed -i '/pserialize_perform/d' "$room/test.c"
     run_example >"$log.said"
-    diff "$log.said" <(sed -n '/^explorer: /,/^```$/p' "$folder/README.md" | sed '/^```/d')
+    diff <(cat "$log.right" "$log.said") <(sed -n '/^explorer: /,/^```$/p' "$folder/README.md" | sed '/^```/d')
 }
 
 # The line that is printed runs the schedule of the fault alone, and no other search of the program.

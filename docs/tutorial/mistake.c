@@ -61,7 +61,7 @@ static void *work(void *cpu)
 }
 
 /* Says what still holds the entry with this number. */
-static void tell(uint64_t number, const struct kupaldiz_met *met)
+static void print_holder(uint64_t number, const struct kupaldiz_met *met)
 {
 	if (met->stage == KUPALDIZ_PASSIVE)
 		fprintf(stderr, "still held: CPU %d has a passive reference\n", (int)met->what);
@@ -87,7 +87,7 @@ static struct plugin *remove_plugin(struct kupaldiz_cpu *cpu)
 	enum kupaldiz_result result =
 	    kupaldiz_destroy_wait(&interlock, cpu, gone.number, &deadline, &met);
 	if (result == KUPALDIZ_STILL_HELD)
-		tell(gone.number, &met);
+		print_holder(gone.number, &met);
 	check("destroy", result);
 	return gone.pointer;
 }
