@@ -19,7 +19,7 @@ pub use Rattle.cpu_words.specs.Seats.{AreOpening, AreSeats, MaySeat, cpu_seat, k
 pub use Rattle.cpu_words.specs.Draining.{CollectTold, HasAdded, HasCollected, HasKeptSub, HasLookedPassive, IsFoundCollected, KeptSubTold, LookedPassiveTold, MayCollect, MayJoinKeeper, MayKeptSub}
 pub use Rattle.cpu_words.specs.Draining.{MayPassiveLook, MayTotalAdd, MayTotalSub, TotalAddTold, TotalSubTold, keeper_after_join, row_of, with_given_up, HasLooked, HasSnapshot, LookTold, MayGlance}
 pub use Rattle.cpu_words.specs.Draining.{MayLook, MaySnapshot, due_next, keeper_after_look, IsDrained, MayVacate, MayWrite, VacateTold, keeper_after_vacate}
-pub use Rattle.cpu_words.specs.Freed.{EndedRuns, EndsRun, HasClosed, IsGoneFrom, LastView, FreedByKeeper, FreedIsGone, IsGone, AttachedKeeps, KeepsAsLong, KeepsDriver}
+pub use Rattle.cpu_words.specs.Freed.{EndedRuns, EndsRun, EndsRunFor, HasClosed, IsGoneFrom, LastView, FreedByKeeper, FreedIsGone, IsGone, AttachedKeeps, KeepsAsLong, KeepsDriver}
 pub use Rattle.cpu_words.specs.Fresh.{HeadsAreNewest, LookupsAreFresh, LookupsAreLinear, PassesAreWhole, RecallsAreLive, RefindsAreLive, WholeInTheList, has_sought, history_length, until_reply, with_reply}
 pub use Rattle.cpu_words.specs.KeeperLog.{AreCountsOf, AreMarksOf, AreSlotsOf, AreTotalsOf, FindsWord, HasHeardFrom, HasPassedOn, HasWaited, IsAttachedKeeping, IsDetachedFrom, IsFreedFrom, IsOwnLog}
 pub use Rattle.cpu_words.specs.KeeperLog.{IsSeenOut, IsShownAfter, IsSnapped, KeepsEntry, KeepsSlot, KnownLogGrows, Standing, WordsGrow, attached, changes_in, changes_of, detached, given_after}

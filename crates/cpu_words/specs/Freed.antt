@@ -1,20 +1,22 @@
 -- Destroying (psref(9), localcount(9)): what is known for good of an entry that is gone, of a driver that is kept, and of the end of a run.
 use Rattle.std.specs.Prelude.{◌≡◌, ℕ, Some, ◌<◌, List, length, slice_index}
+use mathlib.Core.List.{IsPrefix}
 use mathlib.Core.Option.{some}
 use lib.ListN.{get_elem?}
 use Rattle.atomic_table.specs.Table.{State as Table}
 use Rattle.cpu_words.specs.Types.{Entry, Settings, Event}
 use Rattle.protocol.specs.Common.{IsAttached, EndsAt, State, opening, IsUnheld, picture, after, occupant_of, kept_at, empty_model, IsModelRun, HasConfirm, Holds, ObeysLaws}
+use Rattle.cpu_words.specs.declared.view.CpuView.{CpuView}
 use Rattle.cpu_words.specs.declared.view.KeeperView.{KeeperView}
 use Rattle.cpu_words.specs.declared.view.Logged.{Logged}
 use Rattle.cpu_words.specs.declared.view.View.{View}
-use Rattle.cpu_words.specs.declared.view.View.TheVariants.{Keeper}
+use Rattle.cpu_words.specs.declared.view.View.TheVariants.{Keeper, Cpu}
 use Rattle.cpu_words.specs.KeeperLog.{IsFreedFrom, IsAttachedKeeping}
 use Rattle.cpu_words.specs.Logs.{without_logs, LoggedRuled, AreByOwn, events_of}
 use Rattle.cpu_words.specs.Headline.{RunsAsLogged, SeatHolds}
 use Rattle.cpu_words.specs.declared.view.LogItem.{LogItem}
 use Rattle.cpu_words.specs.Spots.{index, live_of}
-use Rattle.cpu_words.specs.Views.{KeeperShown}
+use Rattle.cpu_words.specs.Views.{CpuShown, KeeperShown}
 use Rattle.cpu_words.specs.Rule.{Agrees, log_of_events}
 use Rattle.cpu_words.specs.Steps.{part}
 
@@ -72,16 +74,17 @@ pub record LastView : Type 0 where
   pub words : List ℕ
   pub settings : Settings
 
--- the words are those of a table under the rule, in which the keeper's seat has this view and did what this log says
-pub record HasClosed (z : Settings) (k : KeeperView) (log : List LogItem) (last : List ℕ) : Type 0 where
+-- the words are those of a table under the rule, in which a CPU's seat has this view, did what its log says, and knows so much of the keeper's log
+pub record HasClosed (z : Settings) (x : CpuView) (log known_log : List LogItem) (last : List ℕ) : Type 0 where
   pub table : Table ℕ Logged
   pub ruled : LoggedRuled z table
   pub words : table.words ≡ last
   pub place : ℕ
   pub seat : Logged
   pub at : get_elem? table.views place ≡ some seat
-  pub view : seat.view ≡ Keeper k
+  pub view : seat.view ≡ Cpu x
   pub did : seat.log ≡ log
+  pub knows : seat.known_log ≡ known_log
 
 -- of an entry that the keeper freed: no slot has it, nothing holds it, and no live word is its number
 pub record IsGoneFrom (z : Settings) (g : State) (last : List ℕ) (n : ℕ) : Type 0 where
@@ -110,6 +113,17 @@ pub record EndsRun (z : Settings) (k : KeeperView) (log : List LogItem) (last : 
   -- what the keeper freed by that log is gone
   pub gone : (t n : ℕ) → IsFreedFrom t n log → IsGoneFrom z (after (opening z) events) last n
 
+-- so it ends for the CPU whose seat closed the table: its log is its whole part of the list, and the state has what its view has
+pub record EndsRunFor (z : Settings) (x : CpuView) (log known_log : List LogItem) (last : List ℕ) : Type 0 where
+  pub keeper : KeeperView
+  pub keeper_log : List LogItem
+  pub run : EndsRun z keeper keeper_log last
+  pub own : part (run.seat x.id) run.acts ≡ log
+  pub shown : CpuShown (after (opening z) run.events) x
+  -- what it knew of the keeper's log and of the history begins these
+  pub known : IsPrefix known_log keeper_log
+  pub seen : IsPrefix x.pass keeper.history
+
 -- so it is of every run that has ended
 abbrev pub EndedRuns : Type 0
-EndedRuns = (z : Settings) (k : KeeperView) (log : List LogItem) (last : List ℕ) → HasClosed z k log last → EndsRun z k log last
+EndedRuns = (z : Settings) (x : CpuView) (log known_log : List LogItem) (last : List ℕ) → HasClosed z x log known_log last → EndsRunFor z x log known_log last

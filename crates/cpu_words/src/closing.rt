@@ -6,7 +6,7 @@ ghost use Rattle.cpu_words.specs.Spots.{live_of, index};
 
 use crate::law::Words;
 use crate::layout::live_place;
-use crate::seat::KeeperSeat;
+use crate::seat::CpuSeat;
 use atomic_table::Closed;
 use registry_values::Settings;
 use std::alloc::Global;
@@ -32,16 +32,16 @@ impl Model for LastWords {
 }
 
 impl Words {
-    /// Ends the table. Whoever calls this has the words back, so no thread makes a step on them any more: the run is over. The words are
-    /// those of a table under the rule in which the keeper's seat has this view and this log. What the laws say of them, and of the list
-    /// of events that led to them, is `ended_run`.
-    pub fn close(self, keeper: KeeperSeat) -> LastWords
-        requires table { keeper.table ≡ self.table }
+    /// Ends the table, by the seat of a CPU. Whoever calls this has the words back, so no thread makes a step on them any more: the run is
+    /// over. The words are those of a table under the rule in which this seat has its view and its log, and knows what it knows of the
+    /// keeper's log. What the laws say of them, and of the list of events that led to them, is `ended_run`.
+    pub fn close(self, seat: CpuSeat) -> LastWords
+        requires table { seat.table ≡ self.table }
         ensures settings { result.settings ≡ self.settings }
-        ensures ended { HasClosed self.settings keeper.view keeper.log result.words }
+        ensures ended { HasClosed self.settings seat.view seat.log seat.known_log result.words }
     {
         let Words { table, settings } = self;
-        let KeeperSeat { token, end: _ } = keeper;
+        let CpuSeat { token, end: _ } = seat;
         LastWords {
             closed: table.close_with(token),
             settings,

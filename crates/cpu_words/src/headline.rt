@@ -53,6 +53,11 @@ pub fn running_headline()
 /// - `words`, `holds`, `modelled`, `laws`: they are the words of the state that the list leads to, which obeys the protocol's laws.
 /// - `keeper`, `shown`: the keeper's log is its whole part of the list, and its view is of that state.
 /// - `gone`: an entry that the keeper freed by that log has no slot, no holder, and no live word.
+///
+/// For the CPU whose seat ended the table:
+///
+/// - `own`, `shown`: its log is its whole part of the list, and its view is of that state.
+/// - `known`, `seen`: what it knew of the keeper's log begins that log, and its pass the history.
 #[tactic(auto, using(crate::proofs::laws::Freed::ended_runs))]
 pub fn ended_run()
     ensures ended { EndedRuns }

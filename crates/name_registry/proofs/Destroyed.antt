@@ -5,18 +5,19 @@ use Rattle.std.proofs.Common.{◌≡◌, ◌∙◌, ⊎_elim, ℕ, ◌<◌, ◌&
 use Rattle.std.proofs.lemmas.List.{length-append}
 use Rattle.std.proofs.lemmas.Option.{none-some, same_Some}
 use mathlib.Core.List.{IsPrefix}
-use Rattle.name_registry.specs.Types.{Change, Entry, Refusal, Settings, Slot, Vacant, Live, Retired, Stage, Grace, Passive, Local, Freed, Mark, Hear, KeptSub, Tell, Vacate, Done, Rest, LogItem, KeeperView, Keeper, Inside, NotRetired}
+use Rattle.name_registry.specs.Types.{Change, Entry, Refusal, Settings, Slot, Vacant, Live, Retired, Stage, Grace, Passive, Local, Freed, Mark, Hear, KeptSub, Tell, Vacate, Done, Rest, LogItem, CpuView, KeeperView, Keeper, Inside, NotRetired}
 use Rattle.registry_values.specs.Common.{is_retired, is_retired_as, retired_slot, slot_at, IsObstacle, destroy_result_of}
 use Rattle.registry_values.proofs.Slots.{retired_slot_tells}
 use Rattle.protocol.specs.Common.{addition_due_at, is_adding_at, subtraction_due_at, State, count_at, mark_at, total_at}
 use Rattle.protocol.proofs.keeps.Linking.{within_retired}
 use Rattle.protocol.proofs.Cells.{position_fails}
-use Rattle.cpu_words.specs.Common.{has_looked, has_looked_passive, is_drawn, occupant, occupant_of, word_if, IsFreedFrom, keeper_with_note, did, HasClosed}
+use Rattle.cpu_words.specs.Common.{has_looked, has_looked_passive, is_drawn, occupant, occupant_of, word_if, IsFreedFrom, keeper_with_note, did, part, HasClosed}
 use Rattle.cpu_words.proofs.by_keeper.KeeperSteps.{seen_by_keeper}
 use Rattle.cpu_words.proofs.logs.Slots.{not_attached}
 use Rattle.cpu_words.proofs.laws.Freed.{ended_runs}
-use Rattle.passive_list.specs.Common.{OnCpu, OnKeeper, HasOwnLog, HasHeardOn, as_teller, cpu_after_tell, has_heard, HasFreed}
-use Rattle.name_registry.specs.Common.{EndsIn, HasAdvanced, HasEnded, Meets, MeetsGrace, MeetsLocal, MeetsPassive, HasAdvancedFor, hears_cpu, keeper_after_hear, keeper_after_tell, AnswersBy, HasMet, IsNotRetired, IsRetiredIn, IsTurn, MetLocals, MetReference, MetSection, IsGoneIfFreed, Destroys, DestroysOutside, HasDestroyed, LastMeeting, SomeAdvancedFor, TurnsMeeting, IsDestroyRefusal, HasLearned, IsDestroyAnswer, ClosesRun, StaysGoneBy}
+use Rattle.cpu_words.proofs.shown.Seeing.{prefix_both}
+use Rattle.passive_list.specs.Common.{OnCpu, OnKeeper, HasOwnLog, HasHeardOn, as_teller, cpu_after_tell, has_heard, has_told, HasFreed}
+use Rattle.name_registry.specs.Common.{EndsIn, HasAdvanced, HasEnded, Meets, MeetsGrace, MeetsLocal, MeetsPassive, HasAdvancedFor, hears_cpu, keeper_after_hear, keeper_after_tell, AnswersBy, HasMet, IsNotRetired, IsRetiredIn, IsTurn, MetLocals, MetReference, MetSection, IsGoneIfFreed, Destroys, DestroysOutside, HasDestroyed, LastMeeting, SomeAdvancedFor, TurnsMeeting, IsDestroyRefusal, HasLearned, IsDestroyAnswer, ClosesRun, StaysGoneBy, tells_and_hears}
 use Rattle.name_registry.proofs.Noted.{heard_told_again, met_again, prefix_short, learned, by_meeting_again}
 use Rattle.name_registry.proofs.Worked.{prefix_on}
 use Rattle.name_registry.proofs.Waited.{Learns, learns_none, learns_more}
@@ -300,12 +301,25 @@ destroyed_told z n turns x y answer is =
     let turn = turn_since z n x is.last.0 is.met y (learns_meeting z n is.earlier x is.last.0 is.last.1) is.last.2.2 in
     subst (λ (r : Result ℕ Refusal). IsDestroyAnswer z n x r y) (sym is.told) (met_told z n x y is.met turn)
 
--- The end of a registry: the keeper heard what the CPU knew, and then its words were closed.
+-- The end of a registry: the keeper heard what the CPU knew, then the CPU what the keeper did, and the words were closed by its seat.
 
-pub closes_run : (z : Settings) (a b : OnKeeper) (x : OnCpu) (last : List ℕ) → b ≡ keeper_after_hear a x → IsPrefix x.known_log a.log → IsPrefix x.view.pass b.view.history
-    → HasClosed z b.view b.log last → ClosesRun z x last
-closes_run z a b x last is known seen closed =
-    let run = ended_runs z b.view b.log last closed in
-    let grown : IsPrefix x.known_log b.log =
-    (known.0 ++ hears_cpu x, sym (append_assoc x.known_log known.0 (hears_cpu x)) ∙ (ap (λ (l : List LogItem). l ++ hears_cpu x) known.1 ∙ ap (λ (k : OnKeeper). k.log) (sym is))) in
-    record { keeper = b.view; log = b.log; run = run; known = grown; seen = seen; gone = λ t n freed. run.gone t n (freed_more t n x.known_log b.log grown freed) }
+pub closes_run : (z : Settings) (x y : OnCpu) (history : List Change) (last : List ℕ) → HasHeardOn history (cpu_after_tell x) y → y.log ≡ (cpu_after_tell x).log ++ has_heard (cpu_after_tell x) None
+    → HasClosed z y.view y.log y.known_log last → ClosesRun z x last
+closes_run z x y history last heard log closed =
+    let its = ended_runs z y.view y.log y.known_log last closed in
+    let view : y.view ≡ record x.view { pass = y.view.pass; noted_pass = history } = ap (λ (c : OnCpu). c.view) heard.is in
+    let noted : y.view.noted_pass ≡ history = ap (λ (v : CpuView). v.noted_pass) view in
+    let whole : part (its.run.seat y.view.id) its.run.acts ≡ x.log ++ tells_and_hears x = its.own ∙ (log ∙ append_assoc x.log (has_told x) (has_heard x None)) in
+    let known : IsPrefix x.known_log its.keeper_log = prefix_both x.known_log y.known_log its.keeper_log heard.known_log its.known in
+    record {
+      keeper = its.keeper;
+      log = its.keeper_log;
+      run = its.run;
+      own = subst (λ (c : ℕ). part (its.run.seat c) its.run.acts ≡ x.log ++ tells_and_hears x) (ap (λ (v : CpuView). v.id) view) whole;
+      view = y.view;
+      grown = view ∙ ap (λ (h : List Change). record x.view { pass = y.view.pass; noted_pass = h }) (sym noted);
+      shown = its.shown;
+      known = known;
+      seen = prefix_both x.view.pass y.view.pass its.keeper.history heard.pass its.seen;
+      gone = λ t n freed. its.run.gone t n (freed_more t n x.known_log its.keeper_log known freed);
+    }

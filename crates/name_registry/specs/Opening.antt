@@ -1,15 +1,16 @@
 -- A registry before it is named, its CPUs as it is opened, and its end.
-use Rattle.std.specs.Prelude.{◌≡◌, ℕ, ◌<◌, List, [], length, map, IsTrue}
+use Rattle.std.specs.Prelude.{◌≡◌, ℕ, ◌<◌, List, [], ◌++◌, length, map, IsTrue}
 use Rattle.std.specs.Global.{Box}
 use mathlib.Core.Option.{some}
 use lib.ListN.{get_elem?}
 use Rattle.atomic_table.specs.Seated.{TableId}
 use mathlib.Core.List.{IsPrefix}
-use Rattle.name_registry.specs.Types.{Settings, KeeperView, LogItem}
+use Rattle.name_registry.specs.Types.{Settings, CpuView, KeeperView, LogItem}
 use Rattle.registry_values.specs.Common.{are_fit}
 use Rattle.protocol.specs.Common.{opening, after}
-use Rattle.cpu_words.specs.Common.{Named, Seated, new_cpu, keeper_with, EndsRun, IsFreedFrom, IsGoneFrom}
+use Rattle.cpu_words.specs.Common.{Named, Seated, new_cpu, keeper_with, part, CpuShown, EndsRun, IsFreedFrom, IsGoneFrom}
 use Rattle.passive_list.specs.Common.{OnCpu, OnPlainCpu, no_memory}
+use Rattle.name_registry.specs.Locking.{tells_and_hears}
 
 -- the CPU c of a new table: outside, with nothing found and nothing held, and nothing was made
 abbrev pub new_on : Settings → ℕ → OnCpu
@@ -52,11 +53,17 @@ pub record AreNewCpus (z : Settings) (n : ℕ) (xs : List OnCpu) : Type 0 where
 
 -- The end of a registry: what the last words are to whoever ends it with a CPU.
 
--- a list of events leads from the opening to these words; it has what the CPU knows, and what was freed by that is gone
+-- a list of events leads from the opening to these words; it has all that the CPU did and knows, and what was freed by that is gone
 pub record ClosesRun (z : Settings) (x : OnCpu) (last : List ℕ) : Type 0 where
   pub keeper : KeeperView
   pub log : List LogItem
   pub run : EndsRun z keeper log last
+  -- the CPU's log, and after it the two notes of its end, are its whole part of the list
+  pub own : part (run.seat x.view.id) run.acts ≡ x.log ++ tells_and_hears x
+  -- the last state has what the CPU's view has, which has grown by what it heard
+  pub view : CpuView
+  pub grown : view ≡ record x.view { pass = view.pass; noted_pass = view.noted_pass }
+  pub shown : CpuShown (after (opening z) run.events) view
   pub known : IsPrefix x.known_log log
   pub seen : IsPrefix x.view.pass keeper.history
   pub gone : (t n : ℕ) → IsFreedFrom t n x.known_log → IsGoneFrom z (after (opening z) run.events) last n

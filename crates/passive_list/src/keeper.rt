@@ -128,20 +128,6 @@ impl Keeper {
         }
     }
 
-    /// The seat alone, for whoever ends the table (`Words::close`).
-    pub fn into_seat(self) -> KeeperSeat
-        ensures { (result.table ≡ self.words.table) × (result.view ≡ self.keeper.view) × (result.log ≡ self.keeper.log) }
-    {
-        let Keeper {
-            seat,
-            settings: _,
-            changes: _,
-            rows: _,
-            marks: _,
-        } = self;
-        seat
-    }
-
     /// The state of a slot, from 0; past the table's slots nothing is.
     pub fn slot(&self, s: u8) -> SlotState
         ensures { result ≡ slot_at self.now.keeper.slots s }

@@ -107,6 +107,25 @@ impl PlainCpu {
         }
     }
 
+    /// The seat alone, for whoever ends the table (`Words::close`).
+    pub fn into_seat(self) -> CpuSeat
+        ensures table { result.table ≡ self.words.table }
+        ensures seat { (result.view ≡ self.cpu.view) × (result.log ≡ self.cpu.log) × (result.known_log ≡ self.cpu.known_log) }
+    {
+        let PlainCpu {
+            seat,
+            id: _,
+            ended: _,
+            depth: _,
+            found: _,
+            passive: _,
+            net: _,
+            memory: _,
+            apart: _,
+        } = self;
+        seat
+    }
+
     /// The CPU's number, from 0.
     pub fn id(&self) -> u8
         ensures { result ≡ self.now.cpu.view.id }

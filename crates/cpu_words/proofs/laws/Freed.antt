@@ -1,5 +1,5 @@
 -- Destroying: an entry whose slot the keeper made vacant is gone in any later state; drivers that are kept; and the end of a run.
-use Rattle.std.proofs.Common.{◌≡◌, inl, length-set, inr, ⊎_elim, ℕ, true, IsTrue, List, [], ◌∷◌, ◌++◌, length, set, Option, Some, IsSome, refl, sym, ap, ◌∙◌, subst, append_assoc, length-append, arith, suc, ◌<◌}
+use Rattle.std.proofs.Common.{◌≡◌, inl, length-set, inr, ⊎_elim, ℕ, true, IsTrue, List, [], ◌∷◌, ◌++◌, length, set, take, Option, Some, IsSome, refl, sym, ap, ◌∙◌, subst, append_assoc, length-append, arith, suc, ◌<◌}
 use Rattle.std.proofs.lemmas.List.{append-nil}
 use Rattle.std.proofs.lemmas.Option.{none-some, same_Some}
 use mathlib.Core.List.{IsPrefix}
@@ -9,7 +9,7 @@ use Rattle.atomic_table.specs.Table.{State as Table}
 use Rattle.atomic_table.proofs.Lists.{at_map}
 use Rattle.cpu_words.specs.Types.{Entry, Change, Settings, Vacant, Retired, Event, Vacate, KeptSub, Reply, Live, Publish, Republish, Done}
 use Rattle.registry_values.specs.Common.{are_fit, slot_at}
-use Rattle.protocol.specs.Common.{IsAttached, EndsAt, State, opening, Outcome, step, state_after, Holds, Occupies, IsUnheld, number_in, picture, after, occupant_of, destroyed_slot, kept_at, is_honest, live_at, IsPublishing, ended_by}
+use Rattle.protocol.specs.Common.{IsAttached, EndsAt, State, opening, Outcome, step, state_after, Holds, Occupies, IsUnheld, number_in, picture, after, occupant_of, destroyed_slot, kept_at, is_honest, live_at, seen_at, IsPublishing, ended_by}
 use Rattle.protocol.proofs.Made.{Made, Vacates, SubsKept, made, Publishes, Republishes}
 use Rattle.protocol.proofs.History.{one_entry, at_prefix, attached_within, ended_within}
 use Rattle.protocol.proofs.keeps.Keeping.{opening_holds, step_holds}
@@ -24,9 +24,9 @@ use Rattle.protocol.proofs.keeps.Linking.{within_live}
 use Rattle.protocol.proofs.Cells.{slot_here}
 use Rattle.protocol.proofs.keeps.CountKeeps.{live_tells}
 use Rattle.protocol.proofs.runs.Fresh.{honest_tells}
-use Rattle.cpu_words.specs.Common.{LogItem, Logged, View, Good, ShowsViews, IsDetachedFrom, IsFreedFrom, part, without_logs, AreByOwn, RunsAsLogged, IsGone, FreedIsGone, FreedByKeeper, Sits, IsStanding, KeeperView, Keeper, log_item, changes_in, keeping, KeepsDriver, AttachedKeeps, Agrees, EndedRuns, IsGoneFrom, KeeperShown, Shown, live_of, KeepsAsLong, IsAttachedKeeping, by_number}
+use Rattle.cpu_words.specs.Common.{LogItem, Logged, View, Good, ShowsViews, IsDetachedFrom, IsFreedFrom, part, without_logs, AreByOwn, RunsAsLogged, IsGone, FreedIsGone, FreedByKeeper, Sits, IsStanding, KeeperView, Keeper, log_item, changes_in, keeping, KeepsDriver, AttachedKeeps, Agrees, EndedRuns, EndsRun, EndsRunFor, CpuShown, CpuView, Cpu, IsGoneFrom, KeeperShown, Shown, live_of, KeepsAsLong, IsAttachedKeeping, by_number}
 use Rattle.cpu_words.proofs.logs.Loads.{run_as_logged, is_whole, same_event, place, halve}
-use Rattle.cpu_words.proofs.shown.Seeing.{attached_prefix, prefix_both}
+use Rattle.cpu_words.proofs.shown.Seeing.{attached_prefix, prefix_both, taken_is_prefix}
 use Rattle.cpu_words.proofs.shown.Showing.{backed}
 use Rattle.cpu_words.proofs.laws.Safety.{running_headline, seat_has_slot}
 use Rattle.cpu_words.proofs.laws.Waiting.{own_first}
@@ -275,14 +275,14 @@ gone_from z g k last s t n words shown gone = record {
       gone.slotless u (ap number_in live.2 ∙ ap (λ (m : ℕ). Some m) live.1);
 }
 
-pub ended_runs : EndedRuns
-ended_runs z k log last end =
-    let r : RunsAsLogged z end.table = running_headline z end.table end.ruled in
+-- by the keeper's own seat, which is the first
+ends_run : (z : Settings) (s : Table ℕ Logged) (r : RunsAsLogged z s) → EndsRun z r.run.shows.each.keeper.0 (part 0 r.acts) s.words
+ends_run z s r =
     let run = r.run in
     let g : State = after (opening z) run.events in
-    let words : Agrees z last g = subst (λ (l : List ℕ). Agrees z l g) end.words run.words in
-    let shown : KeeperShown g k = subst (Shown g) end.view (run.shows.fits end.place end.seat.view (at_map (λ (l : Logged). l.view) end.table.views end.place end.seat end.at)).1 in
-    let own : log ≡ part 0 r.acts = sym end.did ∙ keeper_did z end.table end.place end.seat k r end.at end.view in
+    let k = run.shows.each.keeper in
+    let log = part 0 r.acts in
+    let shown : KeeperShown g k.0 = (run.shows.fits 0 (Keeper k.0) k.1).1 in
     record {
       events = run.events;
       acts = r.acts;
@@ -290,11 +290,43 @@ ended_runs z k log last end =
       all = r.all;
       seat = run.seat;
       owners = r.owners;
-      words = words;
+      words = run.words;
       holds = run.good.holds;
       modelled = run.modelled;
       laws = run.laws;
-      keeper = own;
+      keeper = refl;
       shown = shown;
-      gone = λ t n freed. gone_from z g k last (without_logs end.table) t n words shown (gone_by z end.table log t n r ([], append-nil log ∙ own) freed);
+      gone = λ t n freed. gone_from z g k.0 s.words (without_logs s) t n run.words shown (gone_by z s log t n r ([], append-nil log) freed);
     }
+
+-- what a CPU saw is in the keeper's history
+seen_by : (g : State) (x : CpuView) (k : KeeperView) → CpuShown g x → KeeperShown g k → IsPrefix x.pass k.history
+seen_by g x k cpu keeper =
+    let history : k.history ≡ g.history = ap (λ (v : KeeperView). v.history) keeper.is in
+    let pass : x.pass ≡ take (seen_at g x.id) g.history = ap (λ (v : CpuView). v.pass) cpu.is in
+    subst (IsPrefix x.pass) (sym history) (subst (λ (h : List Change). IsPrefix h g.history) (sym pass) (taken_is_prefix (seen_at g x.id) g.history))
+
+ends_run_for : (z : Settings) (x : CpuView) (s : Table ℕ Logged) (i : ℕ) (l : Logged) → (r : RunsAsLogged z s) → get_elem? s.views i ≡ some l → l.view ≡ Cpu x → EndsRunFor z x l.log l.known_log s.words
+unfolding ends_run
+ends_run_for z x s i l r at is =
+    let run = r.run in
+    let g : State = after (opening z) run.events in
+    let its = run.shows.fits i l.view (at_map (λ (d : Logged). d.view) s.views i l at) in
+    let shown : CpuShown g x = subst (Shown g) is its.1 in
+    let sits : i ≡ run.seat x.id = subst (Sits run.seat i) is its.0 in
+    let k = run.shows.each.keeper in
+    record {
+      keeper = k.0;
+      keeper_log = part 0 r.acts;
+      run = ends_run z s r;
+      own = ap (λ (j : ℕ). part j r.acts) (sym sits) ∙ sym (r.logs i l at (subst IsStanding (sym is) tt));
+      shown = shown;
+      known = (r.known i l at).0;
+      seen = seen_by g x k.0 shown (run.shows.fits 0 (Keeper k.0) k.1).1;
+    }
+
+pub ended_runs : EndedRuns
+ended_runs z x log known_log last end =
+    let run = ends_run_for z x end.table end.place end.seat (running_headline z end.table end.ruled) end.at end.view in
+    subst (λ (l : List ℕ). EndsRunFor z x log known_log l) end.words
+    (subst (λ (d : List LogItem). EndsRunFor z x log d end.table.words) end.knows (subst (λ (d : List LogItem). EndsRunFor z x d end.seat.known_log end.table.words) end.did run))
