@@ -91,7 +91,7 @@ lay() {
     rm -rf "$to/packaging/debian"
     cp -r "$(first debian packaging/debian)" "$to/debian"
     cp packaging/INSTALL.md "$to/README.md"
-    cp -r docs/C.md docs/ERRORS.md docs/TUTORIAL-C.md docs/tutorial "$to/docs"
+    cp -r docs/C.md docs/ERRORS.md docs/HOWTO-RUST.md docs/TUTORIAL-C.md docs/tutorial "$to/docs"
     cp -r "$(first include crates/registry_c/include)" "$to/include"
     mkdir "$to/rust"
     cp -rL rust/Cargo.toml rust/README.md rust/build.rs rust/kupaldiz_limits.h rust/src rust/examples rust/tests "$to/rust"
