@@ -3,6 +3,7 @@
 //! runs them by `tools/conformance.py run KIT script /dev/stdin`.
 #![allow(dead_code)]
 
+mod common;
 #[path = "../examples/script.rs"]
 mod script;
 
