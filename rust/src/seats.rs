@@ -184,11 +184,13 @@ impl<T> Drop for Seated<'_, T> {
 #[cfg(test)]
 mod tests {
     use crate::tasks::Until;
-    use crate::{Registry, Settings};
+    use crate::{Registry, Settings, LIMITS};
     use std::mem;
     use std::sync::mpsc::{channel, Sender};
-    use std::sync::{Arc, Mutex};
+    use std::sync::{Arc, Barrier, Mutex};
     use std::task::Wake;
+    use std::thread;
+    use std::time::Duration;
 
     /// Makes a call that needs a CPU.
     struct Gets(Registry<u8>, Mutex<Sender<Option<u8>>>);
@@ -198,6 +200,25 @@ mod tests {
             let got = self.0.get("wm").ok().map(|held| *held);
             self.1.lock().unwrap().send(got).unwrap();
         }
+    }
+
+    /// The registry has no CPU of its own, so the program may have each.
+    #[test]
+    fn a_cpu_that_a_call_has_is_waited_for() {
+        let registry = Registry::<u8>::open(Settings::new(LIMITS.cpus as u8, 2)).unwrap();
+        let ((to, from), begun) = (channel(), Barrier::new(2));
+        thread::scope(|scope| {
+            registry.seats.with(|cpu| {
+                let (id, registry, begun) = (cpu.id(), &registry, &begun);
+                scope.spawn(move || {
+                    begun.wait();
+                    to.send(registry.cpu(id).is_some())
+                });
+                begun.wait();
+                assert!(from.recv_timeout(Duration::from_millis(20)).is_err());
+            });
+            assert_eq!(from.recv(), Ok(true));
+        });
     }
 
     /// So its code has the only CPU.

@@ -200,24 +200,6 @@ fn a_call_finds_a_cpu_while_handles_come_and_go() {
     });
 }
 
-/// A call that has a CPU gives it back, so the program has all.
-#[test]
-fn all_cpus_are_had_while_others_make_calls() {
-    let (registry, _) = with_wm();
-    let is_over = AtomicBool::new(false);
-    let get = || {
-        while !is_over.load(Ordering::Relaxed) {
-            assert_eq!(registry.get(WM).map(|held| *held), Ok(7));
-        }
-    };
-    thread::scope(|scope| {
-        (0..2).for_each(|_| drop(scope.spawn(get)));
-        let missing = (0..common::scaled(500)).find(|_| registry.cpus().len() != 3);
-        is_over.store(true, Ordering::Relaxed);
-        assert_eq!(missing, None);
-    });
-}
-
 #[test]
 fn a_future_that_is_dropped_or_done_leaves_nothing_behind() {
     let (registry, cpus) = with_wm();

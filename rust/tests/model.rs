@@ -445,13 +445,9 @@ impl<'cpu> Bench<'cpu> {
             if way > 0 {
                 return PassiveRef::release(held);
             }
-            let (entry, at, more) = (
-                PassiveRef::entry(&held),
-                place(&held).0,
-                PassiveRef::try_clone(&held).map_err(why),
-            );
+            let more = PassiveRef::try_clone(&held).map_err(why);
+            let expected = Ok(place(&held));
             self.passives.push(held);
-            let expected = self.passively(at, entry);
             self.keep(more, expected);
         } else if let Some(held) = self.dice.take(&mut self.locals) {
             held.local.check();

@@ -1,8 +1,9 @@
 //! The sessions of docs/SCRIPTS.md of the repository, whose left column has the commands and whose
-//! right column the report. `tools/conformance.py` compares the program that runs them here with
-//! both engines on many scripts.
+//! right column the report. There are many more scripts in a kit of `tools/conformance.py`, which
+//! runs them by `tools/conformance.py run KIT script /dev/stdin`.
 #![allow(dead_code)]
 
+mod common;
 #[path = "../examples/script.rs"]
 mod script;
 
