@@ -96,9 +96,12 @@ pub record TellsEntry (Does : OnCpu → OnCpu → Result Entry Refusal → Type 
 abbrev pub LooksUpFor : Key → OnPlainCpu → OnPlainCpu → ℕ → Option CEntry → Option CEntry → Type 0
 LooksUpFor key a b n old new = TellsEntry (LooksUp key) a b n old new
 
+abbrev pub FindsInsideFor : Key → OnPlainCpu → OnPlainCpu → ℕ → Option CEntry → Option CEntry → Type 0
+FindsInsideFor key a b n old new = TellsEntry (LooksInside key) a b n old new
+
 pub record FindsFor (key : Key) (a b : OnPlainCpu) (n : ℕ) (old new : Option CEntry) : Type 0 where
   pub outside : a.cpu.view.begin ≡ None → (n ≡ OUTSIDE) × (b ≡ a) × (new ≡ old)
-  pub inside : a.cpu.view.begin ≢ None → TellsEntry (LooksInside key) a b n old new
+  pub inside : a.cpu.view.begin ≢ None → FindsInsideFor key a b n old new
 
 abbrev pub EntersAndFindsFor : Key → OnPlainCpu → OnPlainCpu → ℕ → Option CEntry → Option CEntry → Type 0
 EntersAndFindsFor key a b n old new = TellsEntry (EntersAndFinds key) a b n old new

@@ -1,14 +1,14 @@
 //! Local references, through the handles of a CPU and the keeper. C has a reference as a value: its entry, and a pointer to its block.
 
 ghost use Rattle.std.specs.Prelude.{◌≡◌, ◌<◌, Some, None, true, false, length};
-ghost use Rattle.cpu_words.specs.Common.{IsFoundCollected};
+ghost use Rattle.cpu_words.specs.Common.{IsFoundCollected, key_with};
 ghost use Rattle.passive_list.specs.Common.{HasGivenUp};
-ghost use Rattle.c_handles.specs.Bodies.{IsReferenceOf, OnLocal};
+ghost use Rattle.c_handles.specs.Bodies.{IsReferenceOf, OnLocal, OnLocalBody};
 ghost use Rattle.c_handles.specs.Heap.{IsLong};
 ghost use Rattle.c_handles.specs.values.Texts.{entry_out};
 ghost use Rattle.c_handles.specs.OnHandle.{held_by};
 ghost use Rattle.c_calls.specs.Calls.{AreOfOne, IsOfCpu, IsOfKeeper, Through};
-ghost use Rattle.c_calls.specs.LocalCalls.{are_collected_for, AcquiresLocal, AcquiresLocalFor, AreOfOneRow, GetsLocalFor, GetsLocalNamed, IsUncollected, LocalCopies, LocalForgets, LocalGivesUp, LocalReleases, ReleasesLocked, ReleasesOn, ReleasesUnder, ThroughAll, ThroughLocal, cpu_in};
+ghost use Rattle.c_calls.specs.LocalCalls.{are_collected_for, AcquiresLocal, AcquiresLocalFor, AcquiresLocalInside, AreOfOneRow, GetsLocalFor, GetsLocalNamed, IsUncollected, LocalCopies, LocalForgets, LocalGivesUp, LocalReleases, ReleasesLocked, ReleasesOn, ReleasesUnder, ThroughAll, ThroughLocal, cpu_in};
 
 use crate::arguments::asked;
 use crate::lookups::seen_out;
@@ -27,10 +27,13 @@ use c_handles::values::plain::{
 use c_handles::{CpuBody, KeeperBody, LocalBody};
 use cpu_words::Words;
 use cpu_words::steps::load_local;
-use local_count::{PlainRef, acquire_entry_local, release_under, try_release_on};
+use local_count::{
+    PlainRef, acquire_entry_local, acquire_last_local, release_under, try_release_on,
+};
 use passive_list::Keeper;
-use registry_values::{Key, MOST_SLOTS, Refusal, is_retired_as, kind_word};
+use registry_values::{Key, Kind, MOST_SLOTS, Name, Refusal, is_retired_as, kind_word};
 use std::alloc::Global;
+use std_alloc::room::Vacant;
 
 /// `kupaldiz_get_local` of the header.
 pub fn get_local(
@@ -148,10 +151,31 @@ fn acquire_asked(
     let Ok(room) = cpu.take_room(alloc) else {
         return refused(Refusal::NoMemory);
     };
-    match acquire_entry_local(&cpu.words, &mut cpu.cpu, number, key.kind, key.name) {
-        Ok(mut reference) => {
-            let entry = read_entry(&cpu.words, &mut reference);
-            local.give(LocalBody::of(reference, entry, 0), room);
+    if let Some(reference) = acquire_last_local(&cpu.words, &mut cpu.cpu, number) {
+        give_acquired(&cpu.words, reference, room, local);
+        return DONE;
+    }
+    acquire_rest(cpu, key.kind, key.name, number, room, local)
+}
+
+/// What an acquire does that its fast path didn't answer. It stands apart, so that the fast path saves no register for it.
+/// Conditions: inside; the handle is empty.
+#[inline(never)]
+fn acquire_rest(
+    cpu: &mut CpuBody,
+    kind: Kind,
+    name: Name,
+    number: u64,
+    room: Vacant<LocalBody, Global>,
+    local: &mut LocalHandle,
+) -> u32
+    requires inside { cpu.old.cpu.view.begin ≢ None }
+    requires empty { held_by local.old ≡ None }
+    ensures { AcquiresLocalInside number (key_with kind name) cpu.old cpu.new result (held_by local.new) }
+{
+    match acquire_entry_local(&cpu.words, &mut cpu.cpu, number, kind, name) {
+        Ok(reference) => {
+            give_acquired(&cpu.words, reference, room, local);
             DONE
         }
         Err(refusal) => {
@@ -159,6 +183,22 @@ fn acquire_asked(
             refused(refusal)
         }
     }
+}
+
+/// Puts a reference and its entry into the handle, in that block. Condition: the handle is empty.
+#[inline(always)]
+fn give_acquired(
+    words: &Words,
+    mut reference: PlainRef,
+    room: Vacant<LocalBody, Global>,
+    local: &mut LocalHandle,
+)
+    requires words { (words.now.table ≡ reference.table) × (reference.reference.entry.slot < words.now.settings.slots) }
+    requires empty { held_by local.old ≡ None }
+    ensures { (v : OnLocalBody) × (v.table ≡ reference.table) × (v.reference ≡ reference.reference) × (held_by local.new ≡ Some (record { held = v; copied = false })) }
+{
+    let entry = read_entry(words, &mut reference);
+    local.give(LocalBody::of(reference, entry, 0), room);
 }
 
 /// The entry that a reference is to, as C has it: three loads.

@@ -2,31 +2,32 @@
 //!
 //! C's place is written last: a store before the addition that ends the section would have to be done before it.
 
-ghost use Rattle.std.specs.Prelude.{◌≡◌, Option};
+ghost use Rattle.std.specs.Prelude.{◌≡◌, ◌≢◌, None, Option};
 ghost use Rattle.protocol.specs.Common.{entry_with};
-ghost use Rattle.passive_list.specs.Common.{entry_seen};
-ghost use Rattle.name_registry.specs.LookingUp.{found_or, looked_up};
+ghost use Rattle.cpu_words.specs.Common.{key_with};
+ghost use Rattle.passive_list.specs.Common.{HasRecalledByMemory, OnPlainCpu, entry_seen};
+ghost use Rattle.name_registry.specs.LookingUp.{HasMissed, found_or, looked_up};
 ghost use Rattle.c_handles.specs.values.Texts.{entry_out, number_of};
-ghost use Rattle.c_calls.specs.Calls.{Asks, EntersAndFindsFor, FindsFor, LooksUpFor, Puts, Through};
+ghost use Rattle.c_calls.specs.Calls.{Asks, EntersAndFindsFor, FindsFor, FindsInsideFor, LooksUpFor, Puts, Through};
 
 use crate::arguments::asked;
 use c_handles::CpuBody;
 use c_handles::handle::CpuHandle;
 use c_handles::heap::CHandle;
-use c_handles::values::answer::NamedAnswer;
+use c_handles::values::answer::{EntryAnswer, NamedAnswer};
 use c_handles::values::given::GivenName;
 use c_handles::values::place::EntryPlace;
 use c_handles::values::plain::{CEntry, CName, DONE, EMPTY_HANDLE, OUTSIDE, name_out, refused};
-use name_registry::{enter_find_in, find_in, look_up_in};
+use name_registry::{enter_find_in, find_fast, find_slow, look_up_fast, look_up_slow};
 use passive_list::Seen;
-use registry_values::{Key, Refusal, kind_word};
+use registry_values::{Key, Kind, Name, Refusal, kind_word};
 
 /// `kupaldiz_look_up` of the header.
 pub fn look_up(
     cpu: &mut CpuHandle,
     kind: u32,
     mut name: GivenName,
-    mut found: EntryPlace,
+    found: EntryPlace,
 ) -> NamedAnswer
     ensures places { (result.name ≡ name) × (result.place.at ≡ found.at) }
     ensures call { Through cpu.old.body cpu.new.body result.number (result.place.value ≡ found.value)
@@ -36,34 +37,51 @@ pub fn look_up(
     let Some(body) = cpu.body_mut() else {
         return found.answer(EMPTY_HANDLE).with_name(name);
     };
-    let answer = look_up_by(body, kind, name.name(), &mut found);
-    found.answer(answer).with_name(name)
+    look_up_by(body, kind, name.name(), found).with_name(name)
 }
 
 /// The same on the CPU's body.
 #[inline(always)]
 #[tactic(auto, using(crate::proofs::Asked::asks_bad, crate::proofs::Asked::asks_good))]
-fn look_up_by(cpu: &mut CpuBody, kind: u32, name: Option<CName>, found: &mut EntryPlace) -> u32
-    ensures place { found.new.at ≡ found.old.at }
-    ensures call { Asks kind name result ((cpu.new ≡ cpu.old) × (found.new.value ≡ found.old.value))
-        (λ key. LooksUpFor key cpu.old cpu.new result found.old.value found.new.value) }
+fn look_up_by(cpu: &mut CpuBody, kind: u32, name: Option<CName>, found: EntryPlace) -> EntryAnswer
+    ensures place { result.place.at ≡ found.at }
+    ensures call { Asks kind name result.number ((cpu.new ≡ cpu.old) × (result.place.value ≡ found.value))
+        (λ key. LooksUpFor key cpu.old cpu.new result.number found.value result.place.value) }
 {
     match asked(kind, name) {
-        Ok(key) => {
-            let looked = look_up_in(&cpu.words, &mut cpu.cpu, key);
-            put_looked(looked, key, found)
-        }
-        Err(number) => number,
+        Ok(key) => look_up_key(cpu, key, found),
+        Err(number) => found.answer(number),
     }
 }
 
+/// The same by the key.
+#[inline(always)]
+fn look_up_key(cpu: &mut CpuBody, key: Key, mut found: EntryPlace) -> EntryAnswer
+    ensures place { result.place.at ≡ found.at }
+    ensures call { LooksUpFor key cpu.old cpu.new result.number found.value result.place.value }
+{
+    if let Some(seen) = look_up_fast(&cpu.words, &mut cpu.cpu, key) {
+        let number = put_seen(Some(seen), key, &mut found);
+        return found.answer(number);
+    }
+    look_up_rest(cpu, key.kind, key.name, found)
+}
+
+/// What a lookup does that its fast path didn't answer; `a` is the CPU before that. It stands apart, so that the fast path saves no register for it.
+#[inline(never)]
+fn look_up_rest(cpu: &mut CpuBody, kind: Kind, name: Name, mut found: EntryPlace) -> EntryAnswer
+    ensures place { result.place.at ≡ found.at }
+    ensures call { (a : OnPlainCpu) → a.words ≡ cpu.old.words → HasMissed (key_with kind name) a.cpu cpu.old.cpu
+        → LooksUpFor (key_with kind name) a cpu.new result.number found.value result.place.value }
+{
+    let key = Key { kind, name };
+    let looked = look_up_slow(&cpu.words, &mut cpu.cpu, key);
+    let number = put_looked(looked, key, &mut found);
+    found.answer(number)
+}
+
 /// `kupaldiz_find` of the header.
-pub fn find(
-    cpu: &mut CpuHandle,
-    kind: u32,
-    mut name: GivenName,
-    mut found: EntryPlace,
-) -> NamedAnswer
+pub fn find(cpu: &mut CpuHandle, kind: u32, mut name: GivenName, found: EntryPlace) -> NamedAnswer
     ensures places { (result.name ≡ name) × (result.place.at ≡ found.at) }
     ensures call { Through cpu.old.body cpu.new.body result.number (result.place.value ≡ found.value)
         (λ a b. Asks kind name.name result.number ((b ≡ a) × (result.place.value ≡ found.value))
@@ -72,35 +90,61 @@ pub fn find(
     let Some(body) = cpu.body_mut() else {
         return found.answer(EMPTY_HANDLE).with_name(name);
     };
-    let answer = find_by(body, kind, name.name(), &mut found);
-    found.answer(answer).with_name(name)
+    find_by(body, kind, name.name(), found).with_name(name)
 }
 
 /// The same on the CPU's body.
 #[inline(always)]
 #[tactic(auto, using(crate::proofs::Asked::asks_bad, crate::proofs::Asked::asks_good))]
-fn find_by(cpu: &mut CpuBody, kind: u32, name: Option<CName>, found: &mut EntryPlace) -> u32
-    ensures place { found.new.at ≡ found.old.at }
-    ensures call { Asks kind name result ((cpu.new ≡ cpu.old) × (found.new.value ≡ found.old.value))
-        (λ key. FindsFor key cpu.old cpu.new result found.old.value found.new.value) }
+fn find_by(cpu: &mut CpuBody, kind: u32, name: Option<CName>, found: EntryPlace) -> EntryAnswer
+    ensures place { result.place.at ≡ found.at }
+    ensures call { Asks kind name result.number ((cpu.new ≡ cpu.old) × (result.place.value ≡ found.value))
+        (λ key. FindsFor key cpu.old cpu.new result.number found.value result.place.value) }
 {
     match asked(kind, name) {
-        Ok(key) => find_asked(cpu, key, found),
-        Err(number) => number,
+        Ok(key) => find_key(cpu, key, found),
+        Err(number) => found.answer(number),
     }
 }
 
 /// The same by the key.
 #[inline(always)]
-fn find_asked(cpu: &mut CpuBody, key: Key, found: &mut EntryPlace) -> u32
-    ensures place { found.new.at ≡ found.old.at }
-    ensures call { FindsFor key cpu.old cpu.new result found.old.value found.new.value }
+fn find_key(cpu: &mut CpuBody, key: Key, found: EntryPlace) -> EntryAnswer
+    ensures place { result.place.at ≡ found.at }
+    ensures call { FindsFor key cpu.old cpu.new result.number found.value result.place.value }
 {
     if !cpu.inside() {
-        return OUTSIDE;
+        return found.answer(OUTSIDE);
     }
-    let seen = find_in(&cpu.words, &mut cpu.cpu, key);
-    put_seen(seen, key, found)
+    find_inside(cpu, key, found)
+}
+
+/// The same inside a section.
+#[inline(always)]
+fn find_inside(cpu: &mut CpuBody, key: Key, mut found: EntryPlace) -> EntryAnswer
+    requires inside { cpu.old.cpu.view.begin ≢ None }
+    ensures place { result.place.at ≡ found.at }
+    ensures call { FindsInsideFor key cpu.old cpu.new result.number found.value result.place.value }
+{
+    if let Some(seen) = find_fast(&cpu.words, &mut cpu.cpu, key) {
+        let number = put_seen(Some(seen), key, &mut found);
+        return found.answer(number);
+    }
+    find_rest(cpu, key.kind, key.name, found)
+}
+
+/// What a find does that its fast path didn't answer; `a` is the CPU before that. It stands apart, as `look_up_rest`.
+#[inline(never)]
+fn find_rest(cpu: &mut CpuBody, kind: Kind, name: Name, mut found: EntryPlace) -> EntryAnswer
+    requires inside { cpu.old.cpu.view.begin ≢ None }
+    ensures place { result.place.at ≡ found.at }
+    ensures call { (a : OnPlainCpu) → a.words ≡ cpu.old.words → HasRecalledByMemory (key_with kind name) a.cpu cpu.old.cpu None
+        → FindsInsideFor (key_with kind name) a cpu.new result.number found.value result.place.value }
+{
+    let key = Key { kind, name };
+    let seen = find_slow(&cpu.words, &mut cpu.cpu, key);
+    let number = put_seen(seen, key, &mut found);
+    found.answer(number)
 }
 
 /// `kupaldiz_enter_find` of the header.
@@ -108,7 +152,7 @@ pub fn enter_find(
     cpu: &mut CpuHandle,
     kind: u32,
     mut name: GivenName,
-    mut found: EntryPlace,
+    found: EntryPlace,
 ) -> NamedAnswer
     ensures places { (result.name ≡ name) × (result.place.at ≡ found.at) }
     ensures call { Through cpu.old.body cpu.new.body result.number (result.place.value ≡ found.value)
@@ -118,25 +162,37 @@ pub fn enter_find(
     let Some(body) = cpu.body_mut() else {
         return found.answer(EMPTY_HANDLE).with_name(name);
     };
-    let answer = enter_find_by(body, kind, name.name(), &mut found);
-    found.answer(answer).with_name(name)
+    enter_find_by(body, kind, name.name(), found).with_name(name)
 }
 
 /// The same on the CPU's body.
 #[inline(always)]
 #[tactic(auto, using(crate::proofs::Asked::asks_bad, crate::proofs::Asked::asks_good))]
-fn enter_find_by(cpu: &mut CpuBody, kind: u32, name: Option<CName>, found: &mut EntryPlace) -> u32
-    ensures place { found.new.at ≡ found.old.at }
-    ensures call { Asks kind name result ((cpu.new ≡ cpu.old) × (found.new.value ≡ found.old.value))
-        (λ key. EntersAndFindsFor key cpu.old cpu.new result found.old.value found.new.value) }
+fn enter_find_by(
+    cpu: &mut CpuBody,
+    kind: u32,
+    name: Option<CName>,
+    found: EntryPlace,
+) -> EntryAnswer
+    ensures place { result.place.at ≡ found.at }
+    ensures call { Asks kind name result.number ((cpu.new ≡ cpu.old) × (result.place.value ≡ found.value))
+        (λ key. EntersAndFindsFor key cpu.old cpu.new result.number found.value result.place.value) }
 {
     match asked(kind, name) {
-        Ok(key) => {
-            let looked = enter_find_in(&cpu.words, &mut cpu.cpu, key);
-            put_looked(looked, key, found)
-        }
-        Err(number) => number,
+        Ok(key) => enter_find_key(cpu, key, found),
+        Err(number) => found.answer(number),
     }
+}
+
+/// The same by the key.
+#[inline(always)]
+fn enter_find_key(cpu: &mut CpuBody, key: Key, mut found: EntryPlace) -> EntryAnswer
+    ensures place { result.place.at ≡ found.at }
+    ensures call { EntersAndFindsFor key cpu.old cpu.new result.number found.value result.place.value }
+{
+    let looked = enter_find_in(&cpu.words, &mut cpu.cpu, key);
+    let number = put_looked(looked, key, &mut found);
+    found.answer(number)
 }
 
 /// Writes the entry that a lookup found, and returns the number of its result.

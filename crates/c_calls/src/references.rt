@@ -5,7 +5,10 @@ ghost use Rattle.std.specs.Prelude.{◌≡◌, ◌≢◌, IfErr, IfOk, None};
 ghost use Rattle.registry_values.specs.Common.{Answers};
 ghost use Rattle.passive_ref.specs.{HasOneLess, why_unusable};
 ghost use Rattle.c_handles.specs.declared.values.plain.TheConstants.{DONE};
-ghost use Rattle.name_registry.specs.LookingUp.{got_of};
+ghost use Rattle.protocol.specs.Common.{entry_with};
+ghost use Rattle.cpu_words.specs.Common.{key_with};
+ghost use Rattle.passive_list.specs.Common.{OnPlainCpu};
+ghost use Rattle.name_registry.specs.LookingUp.{HasNotGot, got_of};
 ghost use Rattle.c_handles.specs.values.Texts.{entry_again, entry_out, number_of};
 ghost use Rattle.c_calls.specs.Calls.{Through};
 ghost use Rattle.c_calls.specs.References.{Acquires, AcquiresFor, AcquiresInside, GetsFor, GetsInto, Copies, CopiesHeld, HoldsSay, Releases, ReleasesHeld, psref_of};
@@ -22,10 +25,10 @@ use c_handles::values::plain::{
     CEntry, CName, CPassive, DONE, EMPTY_HANDLE, FULL_HANDLE, NULL, OUTSIDE, entry_again,
     kind_given, no_passive, passive_again, refused,
 };
-use name_registry::get_in;
+use name_registry::{get_fast, get_slow};
 use passive_list::Seen;
 use passive_ref::{Psref, acquire_entry, copy_on, held_on, release_at, release_on};
-use registry_values::{Key, Refusal};
+use registry_values::{Key, Kind, Name, Refusal};
 
 /// `kupaldiz_get` of the header.
 pub fn get(
@@ -66,7 +69,21 @@ fn get_asked(cpu: &mut CpuBody, key: Key, reference: &mut CPassive) -> u32
     ensures { GetsFor key cpu.old cpu.new result reference.old reference.new }
 {
     let id = cpu.cpu.id();
-    let got = get_in(&cpu.words, &mut cpu.cpu, key);
+    if let Some(got) = get_fast(&cpu.words, &mut cpu.cpu, key) {
+        return put_psref(got, key, id, reference);
+    }
+    get_rest(cpu, key.kind, key.name, reference, id)
+}
+
+/// What a get does that its fast path didn't answer; `a` is the CPU before that, with the number `id`. It stands apart, so that the fast path saves
+/// no register for it.
+#[inline(never)]
+fn get_rest(cpu: &mut CpuBody, kind: Kind, name: Name, reference: &mut CPassive, id: u8) -> u32
+    ensures { (a : OnPlainCpu) → a.words ≡ cpu.old.words → id ≡ a.cpu.view.id → HasNotGot (key_with kind name) a.cpu cpu.old.cpu
+        → GetsFor (key_with kind name) a cpu.new result reference.old reference.new }
+{
+    let key = Key { kind, name };
+    let got = get_slow(&cpu.words, &mut cpu.cpu, key);
     put_got(got, key, id, reference)
 }
 
@@ -77,10 +94,19 @@ fn put_got(got: Result<(Seen, Psref), Refusal>, key: Key, id: u8, reference: &mu
     ensures refused { IfErr (got_of key got) (λ _. reference.new ≡ reference.old) }
     ensures writes { IfOk (got_of key got) (λ g. reference.new ≡ record { entry = entry_out g.0; cpu = id }) }
 {
-    let (seen, psref) = match got {
-        Ok(got) => got,
-        Err(refusal) => return refused(refusal),
-    };
+    match got {
+        Ok(got) => put_psref(got, key, id, reference),
+        Err(refusal) => refused(refusal),
+    }
+}
+
+/// Writes the reference of this CPU, and returns `DONE`.
+#[inline(always)]
+fn put_psref(got: (Seen, Psref), key: Key, id: u8, reference: &mut CPassive) -> u32
+    ensures number { result ≡ DONE }
+    ensures writes { reference.new ≡ record { entry = entry_out (entry_with key got.0.slot got.0.number got.0.value); cpu = id } }
+{
+    let (seen, psref) = got;
     psref.forget();
     *reference = CPassive {
         entry: seen_out(key, seen),

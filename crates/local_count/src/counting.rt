@@ -1,7 +1,7 @@
 //! Acquiring and releasing a local reference by a CPU's own count (localcount(9)).
 
-ghost use Rattle.std.specs.Prelude.{◌≡◌, ◌≢◌, ◌<◌, IfOk, IsTrue, IfErr, None, false};
-ghost use Rattle.local_count.specs.{net_by, AcquiresEntryLocal, AcquiresSoughtLocal, AnswersAcquireLocal, IsLastFound, why_not_acquired_local, HasReleased, HasComeBack};
+ghost use Rattle.std.specs.Prelude.{◌≡◌, ◌≢◌, ◌<◌, IfOk, IfSome, IsTrue, IfErr, None, Ok, false};
+ghost use Rattle.local_count.specs.{net_by, AcquiresEntryLocal, AcquiresLastLocal, AcquiresSoughtLocal, AnswersAcquireLocal, IsLastFound, why_not_acquired_local, HasReleased, HasComeBack};
 ghost use Rattle.registry_values.specs.Common.{are_fit};
 ghost use Rattle.cpu_words.specs.Common.{AreWordsOf, key_with};
 
@@ -48,6 +48,7 @@ pub fn acquire_local<D: Domain>(words: &Words, cpu: &mut Cpu<D>) -> Result<Local
 }
 
 /// `acquire_local` on a CPU that names its own table. Condition: the words are its table's.
+#[inline(always)]
 pub fn acquire_local_on(words: &Words, cpu: &mut PlainCpu) -> Result<PlainRef, Refusal>
     requires words { AreWordsOf words.now cpu.old.words.table cpu.old.words.settings }
     ensures acquired { AnswersAcquireLocal cpu.old.cpu cpu.new.cpu result (λ v. v.reference) }
@@ -69,6 +70,27 @@ pub fn acquire_local_on(words: &Words, cpu: &mut PlainCpu) -> Result<PlainRef, R
         slot: found.slot,
         kind: found.kind,
     })
+}
+
+/// The fast path of `acquire_entry_local`: acquires a local reference to the last found entry, if that has this number and one may be counted. Its
+/// fields stay in registers, since there is no refusal beside them. `None` says nothing, and the CPU is as before: `acquire_entry_local` follows.
+/// Condition: the words are the CPU's table's.
+#[inline(always)]
+pub fn acquire_last_local(words: &Words, cpu: &mut PlainCpu, number: u64) -> Option<PlainRef>
+    requires words { AreWordsOf words.now cpu.old.words.table cpu.old.words.settings }
+    ensures acquired { IfSome result (λ v. AcquiresLastLocal number cpu.old.cpu cpu.new.cpu (Ok v) (λ v. v.reference)) }
+    ensures none { result ≡ None → cpu.new.cpu ≡ cpu.old.cpu }
+    ensures table { IfSome result (λ v. v.table ≡ cpu.old.words.table) }
+    ensures slot { IfSome result (λ v. v.reference.entry.slot < cpu.old.words.settings.slots) }
+    ensures words { cpu.new.words ≡ cpu.old.words }
+{
+    if !is_last_found(cpu, number) {
+        return None;
+    }
+    match acquire_local_on(words, cpu) {
+        Ok(reference) => Some(reference),
+        Err(_) => None,
+    }
 }
 
 /// Acquires a local reference to the entry with that number, and to no other one: to the last found entry, if it is that one; else by a

@@ -11,8 +11,8 @@ mod counting;
 mod local_ref;
 
 pub use counting::{
-    acquire_entry_local, acquire_local, acquire_local_on, net_count, try_release, try_release_on,
-    why_not_acquired_local,
+    acquire_entry_local, acquire_last_local, acquire_local, acquire_local_on, net_count,
+    try_release, try_release_on, why_not_acquired_local,
 };
 pub use local_ref::LocalRef;
 pub use passive_list::{

@@ -1,12 +1,13 @@
 -- A lookup and a get by a CPU with a share of a ledger: what is told of the CPU without the share is told of it.
-use Rattle.std.proofs.Common.{◌≡◌, ◌⊎◌, ℕ, Option, Some, None, Result, Ok, Err, inl, inr, refl, sym, ap, subst, ◌∙◌}
+use Rattle.std.proofs.Common.{◌≡◌, ◌⊎◌, ℕ, Option, Some, None, IfSome, IsTrue, Result, Ok, Err, inl, inr, refl, sym, ap, subst, ◌∙◌}
 use Rattle.name_registry.specs.Types.{Entry, Key, NotFound, Refusal, Seen}
 use Rattle.protocol.specs.Common.{entry_with}
-use Rattle.passive_list.specs.Common.{AnswersEnter, FindsWhatIsKept, FindsWhatStays, HasFoundByMemory, OnCpu, entry_seen}
+use Rattle.passive_list.specs.Common.{AnswersEnter, FindsInside, FindsWhatIsKept, FindsWhatStays, HasFoundAnew, HasFoundByMemory, HasFoundKept, HasRecalledByMemory, OnCpu, entry_seen}
+use Rattle.passive_list.proofs.ByMemory.{anew_after, by_load, inside_after, inside_kept, inside_stays, still_outside}
 use Rattle.passive_list.proofs.Sharing.{found_by_memory, found_inside, sharing}
-use Rattle.passive_ref.specs.{IsAcquired, OnPsref, why_not_acquired}
-use Rattle.passive_ref.proofs.Gets.{got_by_memory}
-use Rattle.name_registry.specs.LookingUp.{FindsAndAcquires, Gets, GetsAnew, GetsFound, GetsInSection, LooksByMemory, LooksInside, LooksUp, TriedSo, Tries, found_or, got_of, looked_up}
+use Rattle.passive_ref.specs.{HasGotByMemory, IsAcquired, OnPsref, why_not_acquired}
+use Rattle.passive_ref.proofs.Gets.{got_by_memory, none_got}
+use Rattle.name_registry.specs.LookingUp.{FindsAndAcquires, Gets, GetsAnew, GetsFound, GetsInSection, HasMissed, HasNotGot, LooksByMemory, LooksInside, LooksUp, MayBegin, TriedSo, Tries, found_or, got_of, looked_up}
 
 entered : (m : ℕ) (a b : OnCpu) (r : Result (Unit {0}) Refusal) → AnswersEnter a b r → AnswersEnter (sharing m a) (sharing m b) r
 entered m a b (Ok tt) had = record { answer = (had.answer.0, assumption had.answer.1); refused = tt }
@@ -88,6 +89,68 @@ gets m key a b r had = record {
 pub gets_so : (m : ℕ) (key : Key) (a b : OnCpu) (r : Result (Seen × OnPsref) Refusal) (s : Result (Entry × OnPsref) Refusal) → Gets key a b (got_of key r) → s ≡ got_of key r
     → Gets key (sharing m a) (sharing m b) s
 gets_so m key a b r s had is = subst (Gets key (sharing m a) (sharing m b)) (sym is) (gets m key a b (got_of key r) had)
+
+-- The fast paths and the slow ones
+
+-- what was told after a load that found the entry live
+pub looked_by_load : (key : Key) (a b : OnCpu) (o : Option Seen) → MayBegin a → HasRecalledByMemory key a b o → IfSome o (λ seen. LooksUp key a b (found_or (entry_seen key (Some seen))))
+looked_by_load key a b None may had = tt
+looked_by_load key a b (Some s) may had =
+    let f = by_load key a b s had in
+    record {
+      by_memory = λ m. record { seen = Some s; is = refl; finds = f.0; stays = f.1; kept = f.2 };
+      spent = λ spent. absurd (spent.1 may.1);
+      inside = λ deep. absurd (deep may.0);
+    }
+
+pub has_missed : (key : Key) (a b : OnCpu) (o : Option Seen) → MayBegin a → HasRecalledByMemory key a b o → o ≡ None → HasMissed key a b
+has_missed key a b o may had none = inl (may, subst (HasRecalledByMemory key a b) none had)
+
+pub looked_anew : (key : Key) (a c b : OnCpu) (o : Option Seen) → HasMissed key a c → MayBegin c → HasFoundAnew key c b o → LooksUp key a b (found_or (entry_seen key o))
+looked_anew key a c b o (inl (may, had)) now anew =
+    let f = anew_after key a c b o had anew may.0 in
+    record {
+      by_memory = λ m. record { seen = o; is = refl; finds = f.0; stays = f.1; kept = f.2 };
+      spent = λ spent. absurd (spent.1 may.1);
+      inside = λ deep. absurd (deep may.0);
+    }
+looked_anew key a c b o (inr (not, same)) now anew = absurd (not (subst MayBegin same now))
+
+pub looked_nested : (key : Key) (a c b : OnCpu) (r : Result Entry Refusal) → HasMissed key a c → (MayBegin c → ⊥) → LooksUp key c b r → LooksUp key a b r
+looked_nested key a c b r (inl (may, had)) not looks = let still = still_outside key a c had in absurd (not (still.0 ∙ may.0, subst IsTrue (sym still.1) may.1))
+looked_nested key a c b r (inr (may, same)) not looks = subst (λ (x : OnCpu). LooksUp key x b r) same looks
+
+pub found_by_load : (key : Key) (a b : OnCpu) (o : Option Seen) → IfSome o (λ seen. FindsInside key a b (Some seen)) → IfSome o (λ seen. LooksInside key a b (found_or (entry_seen key (Some seen))))
+found_by_load key a b None had = tt
+found_by_load key a b (Some s) had = record { seen = Some s; is = refl; finds = had; stays = inside_stays key a b (Some s) had; kept = inside_kept key a b (Some s) had }
+
+pub found_after : (key : Key) (a c b : OnCpu) (o : Option Seen) → HasRecalledByMemory key a c None → HasFoundKept key c b o → LooksInside key a b (found_or (entry_seen key o))
+found_after key a c b o missed kept =
+    let had = inside_after key a c b o missed kept in
+    record { seen = o; is = refl; finds = had; stays = inside_stays key a b o had; kept = inside_kept key a b o had }
+
+pub got_by_load : (key : Key) (a b : OnCpu) (o : Option (Seen × OnPsref)) → MayBegin a → HasGotByMemory key a b o → IfSome o (λ got. Gets key a b (got_of key (Ok got)))
+got_by_load key a b None may had = tt
+got_by_load key a b (Some g) may had = record {
+  by_memory = λ m. record { tried = b; got = Some g; gets = had; after = (refl, refl) };
+  spent = λ spent. absurd (spent.1 may.1);
+  inside = λ deep. absurd (deep may.0);
+}
+
+pub has_not_got : (key : Key) (a b : OnCpu) (o : Option (Seen × OnPsref)) → MayBegin a → HasGotByMemory key a b o → o ≡ None → HasNotGot key a b
+has_not_got key a b o may had none = inl (may, subst (HasGotByMemory key a b) none had)
+
+pub got_anew : (key : Key) (a c b : OnCpu) (r : Result (Entry × OnPsref) Refusal) → HasNotGot key a c → MayBegin c → GetsAnew key c b r → Gets key a b r
+got_anew key a c b r (inl (may, had)) now anew = record {
+  by_memory = λ m. record { tried = c; got = None; gets = had; after = anew };
+  spent = λ spent. absurd (spent.1 may.1);
+  inside = λ deep. absurd (deep may.0);
+}
+got_anew key a c b r (inr (not, same)) now anew = absurd (not (subst MayBegin same now))
+
+pub got_nested : (key : Key) (a c b : OnCpu) (r : Result (Entry × OnPsref) Refusal) → HasNotGot key a c → (MayBegin c → ⊥) → Gets key c b r → Gets key a b r
+got_nested key a c b r (inl (may, had)) not gets = let still = none_got key a c had in absurd (not (still.0 ∙ may.0, subst IsTrue (sym still.1) may.1))
+got_nested key a c b r (inr (may, same)) not gets = subst (λ (x : OnCpu). Gets key x b r) same gets
 
 -- A lookup before a get
 

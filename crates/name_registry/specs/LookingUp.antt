@@ -2,7 +2,7 @@
 use Rattle.std.specs.Prelude.{◌≡◌, ◌≢◌, ◌⊎◌, Option, Some, None, Result, Ok, Err, IsTrue}
 use Rattle.name_registry.specs.Types.{Entry, Key, Refusal, NotFound, Seen, SectionsSpent}
 use Rattle.protocol.specs.Common.{entry_with}
-use Rattle.passive_list.specs.Common.{AnswersEnter, FindsInside, FindsWhatIsKept, FindsWhatStays, HasExitedOn, HasFoundByMemory, OnCpu, entry_seen, may_begin}
+use Rattle.passive_list.specs.Common.{AnswersEnter, FindsInside, FindsWhatIsKept, FindsWhatStays, HasExitedOn, HasFoundByMemory, HasRecalledByMemory, OnCpu, entry_seen, may_begin}
 use Rattle.passive_ref.specs.{HasGotByMemory, IsAcquired, OnPsref, why_not_acquired}
 
 -- the result of a lookup that found so
@@ -48,6 +48,10 @@ pub record LooksUp (key : Key) (a b : OnCpu) (r : Result Entry Refusal) : Type 0
   pub by_memory : MayBegin a → LooksByMemory key a b r
   pub spent : IsSpent a → (r ≡ Err SectionsSpent) × (b ≡ a)
   pub inside : a.depth ≢ 0 → LooksInside key a b r
+
+-- The fast path of a lookup told nothing: by what the CPU remembers of the key, from outside with a section left; else it did nothing.
+abbrev pub HasMissed : Key → OnCpu → OnCpu → Type 0
+HasMissed key a c = (MayBegin a × HasRecalledByMemory key a c None) ⊎ ((MayBegin a → ⊥) × (c ≡ a))
 
 -- how an enter with a find ends: inside with the entry that it found, else by an exit
 abbrev pub EndsAsFound : Result Entry Refusal → OnCpu → OnCpu → Type 0
@@ -104,6 +108,10 @@ pub record GetsAnew (key : Key) (a b : OnCpu) (r : Result (Entry × OnPsref) Ref
 
 abbrev pub GetsByMemory : Key → OnCpu → OnCpu → Result (Entry × OnPsref) Refusal → Type 0
 GetsByMemory key a b r = Tries key a b r (λ c. GetsAnew key c b r)
+
+-- the fast path of a get got nothing: by what the CPU remembers of the key, from outside with a section left; else it did nothing
+abbrev pub HasNotGot : Key → OnCpu → OnCpu → Type 0
+HasNotGot key a c = (MayBegin a × HasGotByMemory key a c None) ⊎ ((MayBegin a → ⊥) × (c ≡ a))
 
 pub record Gets (key : Key) (a b : OnCpu) (r : Result (Entry × OnPsref) Refusal) : Type 0 where
   pub by_memory : MayBegin a → GetsByMemory key a b r

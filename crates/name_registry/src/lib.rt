@@ -36,7 +36,9 @@ pub use first_fit::room_in;
 pub use getting_local::get_local;
 pub use glancing::{begin, glance_at_all, pass_all};
 pub use law::{exact_audit, free_interlock, weights_law};
-pub use looking_up::{enter_find_in, find_in, get_in, look_up_in};
+pub use looking_up::{
+    enter_find_in, find_fast, find_slow, get_fast, get_slow, look_up_fast, look_up_slow,
+};
 pub use registry::Registry;
 pub use releasing::release_for;
 pub use replacing::{replace_iface_by_name_in, replace_iface_in, replace_in};

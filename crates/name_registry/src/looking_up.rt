@@ -1,16 +1,17 @@
 //! Lookups, gets, and enters with a find. From outside they go by memory: a CPU that has found an entry loads one word to see that it is live
 //! still. In an open section they are finds.
 
-ghost use Rattle.std.specs.Prelude.{◌≡◌, ◌≢◌, ◌<◌, IfOk, IfSome, IsTrue, None};
+ghost use Rattle.std.specs.Prelude.{◌≡◌, ◌≢◌, ◌<◌, IfOk, IfSome, IsTrue, None, Ok, Some};
 ghost use Rattle.protocol.specs.Common.{entry_with};
 ghost use Rattle.cpu_words.specs.Common.{AreWordsOf, key_with};
-ghost use Rattle.passive_list.specs.Common.{entry_seen, may_begin};
-ghost use Rattle.name_registry.specs.LookingUp.{EntersAndFinds, FindsAndAcquires, Gets, GetsAnew, GetsFound, GetsInSection, LooksInside, LooksUp, MayBegin, found_or, got_of, looked_up};
+ghost use Rattle.passive_list.specs.Common.{HasRecalledByMemory, OnCpu, entry_seen, may_begin};
+ghost use Rattle.name_registry.specs.LookingUp.{EntersAndFinds, FindsAndAcquires, Gets, GetsAnew, GetsFound, GetsInSection, HasMissed, HasNotGot, LooksInside, LooksUp, MayBegin, found_or, got_of, looked_up};
 
 use crate::registry::Registry;
 use cpu_words::{Domain, Words};
 use passive_list::{
-    Cpu, PlainCpu, Seen, enter_on, exit_on, find_by_memory, find_inside_on, may_begin_on,
+    Cpu, PlainCpu, Seen, enter_on, exit_on, find_and_remember, find_anew, find_by_memory,
+    find_inside_on, may_begin_on, recall_remembered, refind_remembered,
 };
 use passive_ref::{Psref, acquire_on, get_by_memory};
 use registry_values::{Entry, Key, Kind, MOST_SLOTS, Name, Record, Refusal};
@@ -47,23 +48,53 @@ impl<D: Domain> Registry<D> {
     }
 }
 
-/// `Registry::look_up` on a CPU that names its own table. Returns the words of the entry, or `None` in place of `NotFound`: a refusal
-/// has a byte of its own then, so that these words stay in registers. Condition: the words are its table's.
+/// `Registry::look_up` on a CPU that names its own table. Returns the words of the entry, or `None` in place of `NotFound`.
+/// Condition: the words are its table's.
 #[inline(always)]
-pub fn look_up_in(words: &Words, cpu: &mut PlainCpu, key: Key) -> Result<Option<Seen>, Refusal>
+fn look_up_in(words: &Words, cpu: &mut PlainCpu, key: Key) -> Result<Option<Seen>, Refusal>
     requires words { AreWordsOf words.now cpu.old.words.table cpu.old.words.settings }
     ensures looks { LooksUp key cpu.old.cpu cpu.new.cpu (looked_up key result) }
     ensures slot { IfOk result (λ seen. IfSome seen (λ s. s.slot < MOST_SLOTS)) }
     ensures words { cpu.new.words ≡ cpu.old.words }
 {
+    if let Some(seen) = look_up_fast(words, cpu, key) {
+        return Ok(Some(seen));
+    }
+    look_up_slow(words, cpu, key)
+}
+
+/// The fast path of `look_up_in`: from outside, the entry that the CPU remembers, if one load says that it is live. Its words stay in registers,
+/// since there is no refusal beside them. `None` says nothing: `look_up_slow` follows. Condition: the words are its table's.
+#[inline(always)]
+pub fn look_up_fast(words: &Words, cpu: &mut PlainCpu, key: Key) -> Option<Seen>
+    requires words { AreWordsOf words.now cpu.old.words.table cpu.old.words.settings }
+    ensures looks { IfSome result (λ seen. LooksUp key cpu.old.cpu cpu.new.cpu (found_or (entry_seen key (Some seen)))) }
+    ensures missed { result ≡ None → HasMissed key cpu.old.cpu cpu.new.cpu }
+    ensures slot { IfSome result (λ seen. seen.slot < MOST_SLOTS) }
+    ensures words { cpu.new.words ≡ cpu.old.words }
+{
     if may_begin_on(words, cpu) {
-        let seen = find_by_memory(words, cpu, key.kind, key.name);
-        return Ok(seen);
+        return recall_remembered(words, cpu, key.kind, key.name);
+    }
+    None
+}
+
+/// What `look_up_in` does after `look_up_fast` returned `None`. `a` is the CPU before that. Condition: the words are its table's.
+#[inline(always)]
+#[tactic(auto, using(crate::proofs::LookedUp::looked_nested))]
+pub fn look_up_slow(words: &Words, cpu: &mut PlainCpu, key: Key) -> Result<Option<Seen>, Refusal>
+    requires words { AreWordsOf words.now cpu.old.words.table cpu.old.words.settings }
+    ensures looks { (a : OnCpu) → HasMissed key a cpu.old.cpu → LooksUp key a cpu.new.cpu (looked_up key result) }
+    ensures slot { IfOk result (λ seen. IfSome seen (λ s. s.slot < MOST_SLOTS)) }
+    ensures words { cpu.new.words ≡ cpu.old.words }
+{
+    if may_begin_on(words, cpu) {
+        return Ok(find_anew(words, cpu, key.kind, key.name));
     }
     look_up_nested(words, cpu, key)
 }
 
-/// A lookup where it may begin no section. It stands apart, so that a lookup by memory saves no register for it.
+/// A lookup where it may begin no section.
 #[inline(never)]
 fn look_up_nested(words: &Words, cpu: &mut PlainCpu, key: Key) -> Result<Option<Seen>, Refusal>
     requires words { AreWordsOf words.now cpu.old.words.table cpu.old.words.settings }
@@ -81,7 +112,7 @@ fn look_up_nested(words: &Words, cpu: &mut PlainCpu, key: Key) -> Result<Option<
 /// Looks an entry up in the open section, by memory where that serves. Returns its words, if there is one: it is the last found entry then.
 /// Conditions: the words are the CPU's table's; inside.
 #[inline(always)]
-pub fn find_in(words: &Words, cpu: &mut PlainCpu, key: Key) -> Option<Seen>
+fn find_in(words: &Words, cpu: &mut PlainCpu, key: Key) -> Option<Seen>
     requires words { AreWordsOf words.now cpu.old.words.table cpu.old.words.settings }
     requires inside { cpu.old.cpu.view.begin ≢ None }
     ensures looks { LooksInside key cpu.old.cpu cpu.new.cpu (found_or (entry_seen key result)) }
@@ -90,6 +121,33 @@ pub fn find_in(words: &Words, cpu: &mut PlainCpu, key: Key) -> Option<Seen>
     ensures words { cpu.new.words ≡ cpu.old.words }
 {
     find_inside_on(words, cpu, key.kind, key.name)
+}
+
+/// The fast path of `find_in`: the entry that the CPU remembers, if one load says that it is live. `None` says nothing: `find_slow` follows.
+/// Conditions: the words are the CPU's table's; inside.
+#[inline(always)]
+#[tactic(auto, using(crate::proofs::LookedUp::found_by_load))]
+pub fn find_fast(words: &Words, cpu: &mut PlainCpu, key: Key) -> Option<Seen>
+    requires words { AreWordsOf words.now cpu.old.words.table cpu.old.words.settings }
+    requires inside { cpu.old.cpu.view.begin ≢ None }
+    ensures looks { IfSome result (λ seen. LooksInside key cpu.old.cpu cpu.new.cpu (found_or (entry_seen key (Some seen)))) }
+    ensures missed { result ≡ None → HasRecalledByMemory key cpu.old.cpu cpu.new.cpu None }
+    ensures slot { IfSome result (λ seen. seen.slot < MOST_SLOTS) }
+    ensures words { cpu.new.words ≡ cpu.old.words }
+{
+    refind_remembered(words, cpu, key.kind, key.name)
+}
+
+/// What `find_in` does after `find_fast` returned `None`. `a` is the CPU before that. Conditions: the words are the CPU's table's; inside.
+#[inline(always)]
+pub fn find_slow(words: &Words, cpu: &mut PlainCpu, key: Key) -> Option<Seen>
+    requires words { AreWordsOf words.now cpu.old.words.table cpu.old.words.settings }
+    requires inside { cpu.old.cpu.view.begin ≢ None }
+    ensures looks { (a : OnCpu) → HasRecalledByMemory key a cpu.old.cpu None → LooksInside key a cpu.new.cpu (found_or (entry_seen key result)) }
+    ensures slot { IfSome result (λ seen. seen.slot < MOST_SLOTS) }
+    ensures words { cpu.new.words ≡ cpu.old.words }
+{
+    find_and_remember(words, cpu, key.kind, key.name)
 }
 
 /// Enters a section, or the open one once more, and looks an entry up in it. Returns its words: it is the last found entry then, and the CPU stays
@@ -139,22 +197,51 @@ fn enter_and_find(words: &Words, cpu: &mut PlainCpu, key: Key) -> Result<Option<
 
 /// `Registry::get` on a CPU that names its own table. Returns the words of the entry. Condition: the words are its table's.
 #[inline(always)]
-pub fn get_in(words: &Words, cpu: &mut PlainCpu, key: Key) -> Result<(Seen, Psref), Refusal>
+fn get_in(words: &Words, cpu: &mut PlainCpu, key: Key) -> Result<(Seen, Psref), Refusal>
     requires words { AreWordsOf words.now cpu.old.words.table cpu.old.words.settings }
     ensures gets { Gets key cpu.old.cpu cpu.new.cpu (got_of key result) }
     ensures slot { IfOk result (λ got. got.0.slot < MOST_SLOTS) }
     ensures words { cpu.new.words ≡ cpu.old.words }
 {
-    if !may_begin_on(words, cpu) {
-        return get_nested(words, cpu, key);
-    }
-    if let Some(got) = get_by_memory(words, cpu, key.kind, key.name) {
+    if let Some(got) = get_fast(words, cpu, key) {
         return Ok(got);
     }
-    get_anew(words, cpu, key)
+    get_slow(words, cpu, key)
 }
 
-/// A get where it may begin no section. It stands apart, as `look_up_nested`.
+/// The fast path of `get_in`: from outside, by an addition and a load, if the CPU remembers the entry. `None` says nothing, and nothing is held:
+/// `get_slow` follows. Condition: the words are its table's.
+#[inline(always)]
+#[tactic(auto, using(crate::proofs::LookedUp::got_by_load, crate::proofs::LookedUp::has_not_got))]
+pub fn get_fast(words: &Words, cpu: &mut PlainCpu, key: Key) -> Option<(Seen, Psref)>
+    requires words { AreWordsOf words.now cpu.old.words.table cpu.old.words.settings }
+    ensures gets { IfSome result (λ got. Gets key cpu.old.cpu cpu.new.cpu (got_of key (Ok got))) }
+    ensures missed { result ≡ None → HasNotGot key cpu.old.cpu cpu.new.cpu }
+    ensures slot { IfSome result (λ got. got.0.slot < MOST_SLOTS) }
+    ensures words { cpu.new.words ≡ cpu.old.words }
+{
+    if may_begin_on(words, cpu) {
+        return get_by_memory(words, cpu, key.kind, key.name);
+    }
+    None
+}
+
+/// What `get_in` does after `get_fast` returned `None`. `a` is the CPU before that. Condition: the words are its table's.
+#[inline(always)]
+#[tactic(auto, using(crate::proofs::LookedUp::got_anew, crate::proofs::LookedUp::got_nested))]
+pub fn get_slow(words: &Words, cpu: &mut PlainCpu, key: Key) -> Result<(Seen, Psref), Refusal>
+    requires words { AreWordsOf words.now cpu.old.words.table cpu.old.words.settings }
+    ensures gets { (a : OnCpu) → HasNotGot key a cpu.old.cpu → Gets key a cpu.new.cpu (got_of key result) }
+    ensures slot { IfOk result (λ got. got.0.slot < MOST_SLOTS) }
+    ensures words { cpu.new.words ≡ cpu.old.words }
+{
+    if may_begin_on(words, cpu) {
+        return get_anew(words, cpu, key);
+    }
+    get_nested(words, cpu, key)
+}
+
+/// A get where it may begin no section.
 #[inline(never)]
 fn get_nested(words: &Words, cpu: &mut PlainCpu, key: Key) -> Result<(Seen, Psref), Refusal>
     requires words { AreWordsOf words.now cpu.old.words.table cpu.old.words.settings }

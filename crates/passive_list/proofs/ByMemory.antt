@@ -266,6 +266,12 @@ inside_kept_since key h a b answer (Some s, at, inr (c, vain, had)) longer = kep
 pub inside_kept : (key : Key) (a b : OnCpu) (answer : Option Seen) → FindsInside key a b answer → FindsWhatIsKept key a.view.pass b.view.pass (entry_seen key answer)
 inside_kept key a b answer had = inside_kept_since key a.view.pass a b answer had ([], append-nil a.view.pass)
 
+-- a search in the open section, after a load that told nothing
+pub inside_after : (key : Key) (a c b : OnCpu) (answer : Option Seen) → HasRecalledByMemory key a c None → HasFoundKept key c b answer → FindsInside key a b answer
+inside_after key a c b answer (None, at, had) found = (None, at, subst (λ (x : OnCpu). HasFoundKept key x b answer) had.1 found)
+inside_after key a c b answer (Some s, at, inl had) found = let clash : ◌≡◌ {A = Option Seen} None (Some s) = had.0 in cc
+inside_after key a c b answer (Some s, at, inr had) found = (Some s, at, inr (c, had.1, found))
+
 -- at the load of the head
 absent_kept : (key : Key) (h g : List Change) (c : OnCpu) (answer : Option Seen) → IsAbsentAt key c answer → IsLegal g → IsPrefix h c.view.pass → IsPrefix c.view.pass g
     → FindsWhatIsKept key h g (entry_seen key answer)

@@ -1,10 +1,8 @@
 -- What a row that is remembered tells, what stays remembered, and what is remembered from then on.
-use Rattle.passive_list.specs.Common.{Memory, HasCleared, HasForgotten, HasNumbered, IsOfRow, IsRow, IsTrueMiss, KeepsOthers, Missed, Recalls, RecallsAt, Remembers, Seen, WasAbsent, IsCount, entry_of, hint_of, hinted, is_for, keeps, memo_at, memo_of, miss_at, miss_of, missed_as, no_hint, no_memo, no_memory, no_miss, with_miss, with_seen}
-use Rattle.std.specs.Prelude.{slice_index_or}
-use Rattle.std.proofs.Common.{◌≡◌, ◌≢◌, ⊎_elim, inl, inr, ℕ, ◌+◌, ◌*◌, ◌/◌, ◌%◌, ◌^◌, ◌<◌, ◌≤◌, ◌==◌, if◌then◌else◌, min, Bool, true, false, List, length, set, get_or-set_same, get_or-set_other, Some, None, refl, sym, ap, ◌∙◌, subst, arith}
+use Rattle.passive_list.specs.Common.{Memory, HasCleared, HasForgotten, HasNumbered, IsOfRow, IsRow, IsTrueMiss, KeepsOthers, Missed, Recalls, RecallsAt, Remembers, Seen, WasAbsent, LeadBelow, entry_of, hint_at, hint_of, hinted, is_for, keeps, memo_at, memo_of, miss_at, miss_of, missed_as, no_hint, no_memo, no_memory, no_miss, with_miss, with_seen}
+use Rattle.std.proofs.Common.{◌≡◌, ◌≢◌, ⊎_elim, inl, inr, ℕ, ◌+◌, ◌%◌, ◌<◌, ◌≤◌, ◌==◌, if◌then◌else◌, min, Bool, true, false, List, length, replicate, set, get_or-set_same, get_or-set_other, Some, None, refl, sym, ap, ◌∙◌, subst, arith}
 use Rattle.std.proofs.lemmas.Bool.{cases_eq, cases_lt, eqb-true}
 use Rattle.std.proofs.lemmas.List.{length-replicate, length-set, set_past}
-use Rattle.std.proofs.Math.Nat.{mul-lt-mul_of_pos_right}
 use mathlib.Core.List.{IsPrefix}
 use Rattle.passive_list.specs.Types.{Change, Key, Name, MOST_SLOTS}
 use Rattle.protocol.specs.Common.{IsAttached, entry_with}
@@ -15,7 +13,7 @@ use Rattle.passive_list.specs.declared.memory.Hint.{Hint}
 use Rattle.passive_list.specs.declared.memory.Memo.{Memo}
 use Rattle.passive_list.specs.declared.memory.Miss.{Miss}
 use Rattle.passive_list.proofs.Walking.{live_before, prefix_length}
-use Rattle.passive_list.specs.declared.memory.TheConstants.{HALF, HINTS, MIX, MOST_MISSES, SPARE_MISSES}
+use Rattle.passive_list.specs.declared.memory.TheConstants.{HINTS, MOST_MISSES, SPARE_MISSES}
 
 -- A pass and a longer one
 
@@ -42,18 +40,28 @@ stays z h g m longer had = record {
 
 -- Places of hints
 
-hint_few : (c : ℕ) (n : Name) → IsCount c → hint_of c n < c
-hint_few c n few =
-    let x = (n.high + n.low) % 2 ^ 64 * MIX % 2 ^ 64 in
-    let high : x / HALF < HALF = omega arith in
-    let more : x / HALF * c < HALF * c = mul-lt-mul_of_pos_right high few.0 in
-    omega (arith, more)
+pub hint_few : (n : Name) → hint_of n < HINTS
+hint_few n = omega arith
+
+-- at first each hint leads to the first slot
+pub none_lead : (z : ℕ) → 0 < z → LeadBelow z (replicate HINTS no_hint)
+none_lead z some i = subst (λ (h : Hint). (h.last < z) × (h.older < z)) (sym (get_or_all HINTS no_hint i)) (some, some)
+
+-- a hint more that leads to a slot
+pub lead_more : (z i : ℕ) (hints : List Hint) (x : Hint) → LeadBelow z hints → x.last < z → x.older < z → LeadBelow z (set hints i x)
+lead_more z i hints x lead last older j = ⊎_elim
+    (λ (few : i < length hints). ⊎_elim
+    (λ (here : (j ≡ i) × (hint_at (set hints i x) j ≡ x)). subst (λ (h : Hint). (h.last < z) × (h.older < z)) (sym here.1) (last, older))
+    (λ (off : (j ≡ i → ⊥) × (hint_at (set hints i x) j ≡ hint_at hints j)). subst (λ (h : Hint). (h.last < z) × (h.older < z)) (sym off.1) (lead j))
+    (place_cases no_hint hints i x j few))
+    (λ (past : length hints ≤ i). subst (λ (l : List Hint). ((hint_at l j).last < z) × ((hint_at l j).older < z)) (sym (set_past hints i x past)) (lead j))
+    (cases_lt i (length hints))
 
 -- nothing is remembered at first
 pub none_remembered : (z : ℕ) (h : List Change) → 0 < z → z ≤ MOST_SLOTS → Remembers z h (no_memory z)
 none_remembered z h some most = record {
   size = length-replicate z no_memo;
-  hints = subst IsCount (sym (length-replicate (HINTS * z) no_hint)) (omega (arith, some), omega (arith, most));
+  hints = length-replicate HINTS no_hint;
   each = λ t some. absurd (some (ap (λ (m : Memo). m.number) (get_or_all z no_memo t)));
   absent = λ i some. absurd (some (ap (λ (m : Miss). m.number) (get_or_all (min (z + SPARE_MISSES) MOST_MISSES) no_miss i)));
 }
@@ -69,7 +77,7 @@ pub remembers_more : (z : ℕ) (h : List Change) (m : Memory) (key : Key) (s : S
     → Remembers z h (with_seen m key s)
 remembers_more z h m key s had low attached = record {
   size = length-set m.rows s.slot (memo_of key s) ∙ had.size;
-  hints = subst IsCount (sym (same_length ((hinted m.hints key.name).last == s.slot) m.hints _ (length-set m.hints _ _))) had.hints;
+  hints = same_length ((hinted m.hints key.name).last == s.slot) m.hints _ (length-set m.hints _ _) ∙ had.hints;
   each = λ t some. ⊎_elim
       (λ (here : (t ≡ s.slot) × (memo_at (set m.rows s.slot (memo_of key s)) t ≡ memo_of key s)).
       subst (λ (r : Memo). (t < z) × IsAttached h (entry_of t r)) (sym here.1) (subst (λ (u : ℕ). (u < z) × IsAttached h (entry_of u (memo_of key s))) (sym here.0) (low, attached)))
@@ -80,22 +88,18 @@ remembers_more z h m key s had low attached = record {
 }
 
 -- the hint of a name, where the hint of the name n is set to x
-hint_here : (hints : List Hint) (n : Name) (x : Hint) → IsCount (length hints) → hinted (set hints (hint_of (length hints) n) x) n ≡ x
-hint_here hints n x few =
-    let i = hint_of (length hints) n in
-    ap (λ (c : ℕ). slice_index_or (set hints i x) (hint_of c n) no_hint) (length-set hints i x) ∙ get_or-set_same hints i x no_hint (hint_few (length hints) n few)
+hint_here : (hints : List Hint) (n : Name) (x : Hint) → length hints ≡ HINTS → hinted (set hints (hint_of n) x) n ≡ x
+hint_here hints n x all = get_or-set_same hints (hint_of n) x no_hint (omega (arith, hint_few n, all))
 
-hint_other : (hints : List Hint) (n other : Name) (x : Hint) → hint_of (length hints) other ≢ hint_of (length hints) n → hinted (set hints (hint_of (length hints) n) x) other ≡ hinted hints other
-hint_other hints n other x off =
-    let i = hint_of (length hints) n in
-    ap (λ (c : ℕ). slice_index_or (set hints i x) (hint_of c other) no_hint) (length-set hints i x) ∙ get_or-set_other hints i (hint_of (length hints) other) x no_hint off
+hint_other : (hints : List Hint) (n other : Name) (x : Hint) → hint_of other ≢ hint_of n → hinted (set hints (hint_of n) x) other ≡ hinted hints other
+hint_other hints n other x off = get_or-set_other hints (hint_of n) (hint_of other) x no_hint off
 
 row_few : (rows : List Memo) (m : Memo) (t u : ℕ) → u < length rows → u < length (set rows t m)
 row_few rows m t u few = omega (arith, few, length-set rows t m)
 
 -- the newer hint leads to its slot
-leads_by : (b : Bool) (m : Memory) (key : Key) (s : Seen) (x : Hint) → IsCount (length m.hints) → x.last ≡ s.slot → (hinted m.hints key.name).last == s.slot ≡ b
-    → (hinted (if b then m.hints else set m.hints (hint_of (length m.hints) key.name) x) key.name).last ≡ s.slot
+leads_by : (b : Bool) (m : Memory) (key : Key) (s : Seen) (x : Hint) → length m.hints ≡ HINTS → x.last ≡ s.slot → (hinted m.hints key.name).last == s.slot ≡ b
+    → (hinted (if b then m.hints else set m.hints (hint_of key.name) x) key.name).last ≡ s.slot
 leads_by true m key s x few at is = eqb-true (hinted m.hints key.name).last s.slot is
 leads_by false m key s x few at is = ap (λ (h : Hint). h.last) (hint_here m.hints key.name x few) ∙ at
 
@@ -108,8 +112,8 @@ recalls_seen z h m key s had low some =
     inl (s, refl, (sym (leads_by ((hinted m.hints key.name).last == s.slot) m key s _ had.hints refl refl), row))
 
 -- a hint of another name
-other_by : (b : Bool) (hints : List Hint) (n other : Name) (x : Hint) → hint_of (length hints) other ≢ hint_of (length hints) n
-    → hinted (if b then hints else set hints (hint_of (length hints) n) x) other ≡ hinted hints other
+other_by : (b : Bool) (hints : List Hint) (n other : Name) (x : Hint) → hint_of other ≢ hint_of n
+    → hinted (if b then hints else set hints (hint_of n) x) other ≡ hinted hints other
 other_by true hints n other x off = refl
 other_by false hints n other x off = hint_other hints n other x off
 
@@ -120,15 +124,15 @@ row_stays : (rows : List Memo) (m : Memo) (t : ℕ) (other : Key) (o : Seen) →
 row_stays rows m t other o off row = record { few = row_few rows m t o.slot row.few; some = row.some; is = get_or-set_other rows t o.slot m no_memo off ∙ row.is }
 
 -- where a slot didn't have the key, it doesn't, as a row of another name is set
-none_stays : (rows : List Memo) (key other : Key) (s : Seen) (t count : ℕ) → hint_of count other.name ≢ hint_of count key.name → RecallsAt rows other t None
+none_stays : (rows : List Memo) (key other : Key) (s : Seen) (t : ℕ) → hint_of other.name ≢ hint_of key.name → RecallsAt rows other t None
     → RecallsAt (set rows s.slot (memo_of key s)) other t None
-none_stays rows key other s t count apart none low row =
+none_stays rows key other s t apart none low row =
     let few : t < length rows = omega (arith, low, length-set rows s.slot (memo_of key s)) in
     ⊎_elim
     (λ (same : t ≡ s.slot).
     let here : memo_at (set rows s.slot (memo_of key s)) t ≡ memo_of key s = ap (memo_at (set rows s.slot (memo_of key s))) same
     ∙ get_or-set_same rows s.slot (memo_of key s) no_memo (omega (arith, few, same)) in
-    apart (ap (hint_of count) (sym row.name ∙ ap (λ (m : Memo). m.name) here)))
+    apart (ap hint_of (sym row.name ∙ ap (λ (m : Memo). m.name) here)))
     (λ (off : t ≢ s.slot). none few (subst (IsRow other) (get_or-set_other rows s.slot t (memo_of key s) no_memo off) row))
     (cases_eq t s.slot)
 
@@ -144,7 +148,7 @@ keeps_others m key s other o apart off recalls = by recalls
     by : Recalls m other (Some o) → Recalls (with_seen m key s) other (Some o)
     by (inl at) = inl (o, refl, found _ _ (ap (λ (h : Hint). h.last) hints) at.2)
     by (inr at) = inr (
-      subst (λ (h : Hint). RecallsAt (set m.rows s.slot (memo_of key s)) other h.last None) (sym hints) (none_stays m.rows key other s _ (length m.hints) apart at.0),
+      subst (λ (h : Hint). RecallsAt (set m.rows s.slot (memo_of key s)) other h.last None) (sym hints) (none_stays m.rows key other s _ apart at.0),
       found _ _ (ap (λ (h : Hint). h.older) hints) at.1,
     )
 
@@ -174,7 +178,7 @@ other_kept m n key t had other o apart any recalls = subst (λ (l : List Hint). 
     row was = ⊎_elim
         (λ (same : memo_at n.rows o.slot ≡ memo_at m.rows o.slot). record { few = omega (arith, had.size, was.few); some = was.some; is = same ∙ was.is })
         (λ (gone : IsRow key (memo_at m.rows o.slot) × (memo_at n.rows o.slot ≡ no_memo)).
-        absurd (apart (ap (hint_of (length m.hints)) (ap (λ (m : Memo). m.name) (sym was.is) ∙ gone.0.name))))
+        absurd (apart (ap hint_of (ap (λ (m : Memo). m.name) (sym was.is) ∙ gone.0.name))))
         (had.each o.slot)
 
     by : Recalls m other (Some o) → Recalls (record n { hints = m.hints }) other (Some o)
@@ -183,7 +187,7 @@ other_kept m n key t had other o apart any recalls = subst (λ (l : List Hint). 
 
 pub others_kept : (m n : Memory) (key : Key) → HasForgotten key m n → KeepsOthers key None m n
 others_kept m n key had other o apart any recalls =
-    let still = subst (λ (x : Memory). hint_of (length x.hints) other.name ≢ hint_of (length x.hints) key.name) (sym had.1.is) apart in
+    let still = subst (λ (x : Memory). hint_of other.name ≢ hint_of key.name) (sym had.1.is) apart in
     other_kept had.0 n key _ had.2 other o still any (other_kept m had.0 key _ had.1 other o apart any recalls)
 
 -- One miss more
@@ -209,7 +213,7 @@ misses_more z h m key n had was =
 
     kept : (b : Bool) (i : ℕ) → IsTrueMiss h (miss_at (if b then record m.missed { places = set m.missed.places last miss } else record {
       places = set m.missed.places m.missed.next miss;
-      hints = set m.missed.hints (hint_of (length m.missed.hints) key.name) (record { last = m.missed.next; older = last });
+      hints = set m.missed.hints (hint_of key.name) (record { last = m.missed.next; older = last });
       next = (m.missed.next + 1) % length m.missed.places;
     }).places i)
     kept true i = put last i

@@ -7,7 +7,7 @@ use Rattle.passive_list.specs.declared.lookup.Seen.{Seen}
 use Rattle.passive_list.specs.declared.memory.Hint.{Hint}
 use Rattle.passive_list.specs.declared.memory.Memo.{Memo}
 use Rattle.passive_list.specs.declared.memory.Miss.{Miss}
-use Rattle.passive_list.specs.declared.memory.TheConstants.{HALF, HINTS, MIX, MOST_MISSES, SPARE_MISSES}
+use Rattle.passive_list.specs.declared.memory.TheConstants.{HINTS, HINT_SPAN, MIX, MOST_MISSES, SPARE_MISSES}
 
 -- the last misses, to a contract: by hint of a name the two places of the last ones with that hint, and the place of the next one
 pub record Missed : Type 0 where
@@ -21,10 +21,6 @@ pub record Memory : Type 0 where
   pub hints : List Hint
   pub missed : Missed
 
--- there may be so many hints
-abbrev pub IsCount : ℕ → Type 0
-IsCount n = (0 < n) × (n < 2 ^ 32)
-
 abbrev pub no_memo : Memo
 no_memo = record { number = 0; value = 0; kind = Iface; name = record { high = 0; low = 0 } }
 
@@ -36,10 +32,10 @@ no_hint = record { last = 0; older = 0 }
 
 -- of nothing, for so many slots
 abbrev pub no_misses : ℕ → Missed
-no_misses slots = record { places = replicate (min (slots + SPARE_MISSES) MOST_MISSES) no_miss; hints = replicate (HINTS * slots) no_hint; next = 0 }
+no_misses slots = record { places = replicate (min (slots + SPARE_MISSES) MOST_MISSES) no_miss; hints = replicate HINTS no_hint; next = 0 }
 
 abbrev pub no_memory : ℕ → Memory
-no_memory slots = record { rows = replicate slots no_memo; hints = replicate (HINTS * slots) no_hint; missed = no_misses slots }
+no_memory slots = record { rows = replicate slots no_memo; hints = replicate HINTS no_hint; missed = no_misses slots }
 
 abbrev pub memo_at : List Memo → ℕ → Memo
 memo_at rows t = slice_index_or rows t no_memo
@@ -72,10 +68,10 @@ pub record WasAbsent (h : List Change) (key : Key) (n : ℕ) : Type 0 where
 abbrev pub IsTrueMiss : List Change → Miss → Type 0
 IsTrueMiss h m = m.number ≢ 0 → WasAbsent h (record { kind = m.kind; name = m.name }) m.number
 
--- All rows are there, and hints. Each row is of no entry, or of an entry that was attached in that slot by the end of h; each miss is true of h
+-- All rows are there, and all hints. Each row is of no entry, or of an entry that was attached in that slot by the end of h; each miss is true of h
 pub record Remembers (slots : ℕ) (h : List Change) (m : Memory) : Type 0 where
   pub size : length m.rows ≡ slots
-  pub hints : IsCount (length m.hints)
+  pub hints : length m.hints ≡ HINTS
   pub each : (t : ℕ) → (memo_at m.rows t).number ≢ 0 → (t < slots) × IsAttached h (entry_of t (memo_at m.rows t))
   pub absent : (i : ℕ) → IsTrueMiss h (miss_at m.missed.places i)
 
@@ -93,13 +89,20 @@ pub record IsOfRow (rows : List Memo) (key : Key) (s : Seen) : Type 0 where
 
 -- What is remembered of a key
 
--- the hint of a name, of so many
-abbrev pub hint_of : ℕ → Name → ℕ
-hint_of count n = ((n.high + n.low) % 2 ^ 64 * MIX % 2 ^ 64) / HALF * count / HALF
+-- the hint of a name
+abbrev pub hint_of : Name → ℕ
+hint_of n = ((n.high + n.low) % 2 ^ 64 * MIX % 2 ^ 64) / HINT_SPAN
+
+abbrev pub hint_at : List Hint → ℕ → Hint
+hint_at hints i = slice_index_or hints i no_hint
+
+-- each hint leads to places below n
+abbrev pub LeadBelow : ℕ → List Hint → Type 0
+LeadBelow n hints = (i : ℕ) → ((hint_at hints i).last < n) × ((hint_at hints i).older < n)
 
 -- the slots that the hint of the name leads to
 abbrev pub hinted : List Hint → Name → Hint
-hinted hints n = slice_index_or hints (hint_of (length hints) n) no_hint
+hinted hints n = hint_at hints (hint_of n)
 
 -- what the row of the slot t says of the key
 abbrev pub RecallsAt : List Memo → Key → ℕ → Option Seen → Type 0
@@ -114,12 +117,12 @@ Recalls m key found = ((s : Seen) × (found ≡ Some s) × RecallsAt m.rows key 
 abbrev pub with_seen : Memory → Key → Seen → Memory
 with_seen m key s = record m {
   rows = set m.rows s.slot (memo_of key s);
-  hints = if (hinted m.hints key.name).last == s.slot then m.hints else set m.hints (hint_of (length m.hints) key.name) (record { last = s.slot; older = (hinted m.hints key.name).last });
+  hints = if (hinted m.hints key.name).last == s.slot then m.hints else set m.hints (hint_of key.name) (record { last = s.slot; older = (hinted m.hints key.name).last });
 }
 
 -- What is remembered of other keys stays: of those that don't share the hint, and not the slot t, if there is one.
 abbrev pub KeepsOthers : Key → Option ℕ → Memory → Memory → Type 0
-KeepsOthers key t m n = (other : Key) (s : Seen) → hint_of (length m.hints) other.name ≢ hint_of (length m.hints) key.name → IfSome t (λ u. s.slot ≢ u) → Recalls m other (Some s) → Recalls n other (Some s)
+KeepsOthers key t m n = (other : Key) (s : Seen) → hint_of other.name ≢ hint_of key.name → IfSome t (λ u. s.slot ≢ u) → Recalls m other (Some s) → Recalls n other (Some s)
 
 -- The row of the slot t doesn't have the key, if it is there. Each row is as before, but for some that had the key and are of no entry now.
 pub record HasCleared (key : Key) (t : ℕ) (m n : Memory) : Type 0 where
@@ -164,7 +167,7 @@ missed_as key n = record { number = n; kind = key.kind; name = key.name }
 abbrev pub with_missed : Missed → Key → ℕ → Missed
 with_missed m key n = if keeps m.places key (hinted m.hints key.name).last then record m { places = set m.places (hinted m.hints key.name).last (missed_as key n) } else record {
   places = set m.places m.next (missed_as key n);
-  hints = set m.hints (hint_of (length m.hints) key.name) (record { last = m.next; older = (hinted m.hints key.name).last });
+  hints = set m.hints (hint_of key.name) (record { last = m.next; older = (hinted m.hints key.name).last });
   next = (m.next + 1) % length m.places;
 }
 

@@ -2,15 +2,18 @@
 
 ghost use Rattle.std.specs.Prelude.{◌≡◌, ◌↔◌, ◌<◌, IfOk, IsTrue, length};
 ghost use Rattle.cpu_words.specs.Common.{key_with};
-ghost use Rattle.passive_list.specs.Memories.{HasCleared, HasForgotten, IsCount, IsMiss, IsRow, Recalls, RecallsAt, hint_of, is_for, keeps, miss_at, miss_of, no_hint, no_memo, no_memory, no_miss, no_misses, with_miss, with_missed, with_seen};
+ghost use Rattle.passive_list.specs.Memories.{HasCleared, HasForgotten, IsMiss, IsRow, Recalls, RecallsAt, hint_of, is_for, keeps, miss_at, miss_of, no_hint, no_memo, no_memory, no_miss, no_misses, with_miss, with_missed, with_seen};
 
 use crate::lookup::Seen;
 use registry_values::{Kind, MOST_SLOTS, Name};
 use std::alloc::{AllocError, Global};
 use std::marker::Model;
 
-/// How many hints there are for each slot. Few of the names in the slots share one.
-const HINTS: usize = 8;
+/// How many hints there are: for each of the most slots eight. Few of the names in the slots share one.
+const HINTS: usize = 2048;
+
+/// The products of so many names in a row have the same hint: 2^64 by `HINTS`.
+const HINT_SPAN: u64 = 1 << 53;
 
 /// How many more misses than slots are kept, but for the bound of `MOST_MISSES`.
 const SPARE_MISSES: usize = 8;
@@ -20,9 +23,6 @@ const MOST_MISSES: usize = 256;
 
 /// An odd number. Of 32 names that differ in a counter few have products with it that begin with the same eight bits.
 const MIX: u64 = 0xc4ce_b9fe_1a85_ec53;
-
-/// 2^32: a word divided by it is its higher half.
-const HALF: u64 = 1 << 32;
 
 /// The words of an entry that the CPU has found in a slot.
 #[derive(Clone, Copy)]
@@ -114,14 +114,15 @@ pub struct Memory {
 }
 
 impl Model for Memory {
-    ghost use Rattle.std.specs.Prelude.{length};
-    ghost use Rattle.passive_list.specs.Memories.{IsCount, Memory as OnMemory};
+    ghost use Rattle.std.specs.Prelude.{◌≡◌, length};
+    ghost use Rattle.passive_list.specs.Memories.{LeadBelow, Memory as OnMemory};
+    ghost use Rattle.passive_list.specs.declared.memory.TheConstants.{HINTS};
 
     ghost Value = { OnMemory };
 
     ghost view = { λ m. record { rows = m.rows.items; hints = m.hints.items; missed = m.missed } };
 
-    ghost invariant = { λ m. IsCount (length m.hints.items) };
+    ghost invariant = { λ m. (length m.hints.items ≡ HINTS) × LeadBelow (length m.rows.items) m.hints.items };
 }
 
 impl Memory {
@@ -132,7 +133,7 @@ impl Memory {
     {
         Ok(Memory {
             rows: vec![in alloc; Memo::none(); slots as usize]?,
-            hints: vec![in alloc; Hint::none(); HINTS * slots as usize]?,
+            hints: vec![in alloc; Hint::none(); HINTS]?,
             missed: Missed::new(alloc, slots)?,
         })
     }
@@ -142,23 +143,22 @@ impl Memory {
     pub fn remembered(&self, kind: Kind, name: Name) -> Option<Seen>
         ensures { Recalls self.now (key_with kind name) result }
     {
-        let hint = self.hints[hint_of(name, self.hints.len())];
-        let newer = self.at(hint.last, kind, name);
+        let hint = hint_of(name);
+        let newer = self.at(self.hints[hint].last, kind, name);
         if newer.is_some() {
             return newer;
         }
-        self.at(hint.older, kind, name)
+        // Loaded only now: a register that is kept until then costs more.
+        self.at(self.hints[hint].older, kind, name)
     }
 
-    /// The entry of a slot, if it has this kind and name, and there is a row of the slot.
+    /// The entry of a slot, if it has this kind and name.
     #[inline(always)]
     fn at(&self, slot: u8, kind: Kind, name: Name) -> Option<Seen>
+        requires { slot < length self.now.rows }
         ensures { RecallsAt self.now.rows (key_with kind name) slot result }
     {
         let slot = slot as usize;
-        if slot >= self.rows.len() {
-            return None;
-        }
         let memo = self.rows[slot];
         if is_row_of(memo, kind, name) {
             Some(Seen {
@@ -176,7 +176,7 @@ impl Memory {
         requires { (seen.slot < MOST_SLOTS) × (seen.slot < length self.old.rows) }
         ensures { self.new ≡ with_seen self.old (key_with kind name) seen }
     {
-        let hint = hint_of(name, self.hints.len());
+        let hint = hint_of(name);
         let slot = seen.slot as u8;
         let last = self.hints[hint].last;
         if last != slot {
@@ -197,7 +197,7 @@ impl Memory {
     pub fn forget(&mut self, kind: Kind, name: Name)
         ensures { HasForgotten (key_with kind name) self.old self.new }
     {
-        let hint = self.hints[hint_of(name, self.hints.len())];
+        let hint = self.hints[hint_of(name)];
         self.clear(hint.last, kind, name);
         self.clear(hint.older, kind, name);
     }
@@ -238,15 +238,15 @@ pub struct Missed {
 }
 
 impl Model for Missed {
-    ghost use Rattle.std.specs.Prelude.{◌<◌, ◌≤◌, length};
-    ghost use Rattle.passive_list.specs.Memories.{IsCount, Missed as OnMissed};
-    ghost use Rattle.passive_list.specs.declared.memory.TheConstants.{MOST_MISSES};
+    ghost use Rattle.std.specs.Prelude.{◌≡◌, ◌<◌, ◌≤◌, length};
+    ghost use Rattle.passive_list.specs.Memories.{Missed as OnMissed};
+    ghost use Rattle.passive_list.specs.declared.memory.TheConstants.{HINTS, MOST_MISSES};
 
     ghost Value = { OnMissed };
 
     ghost view = { λ m. record { places = m.places.items; hints = m.hints.items; next = m.next } };
 
-    ghost invariant = { λ m. IsCount (length m.hints.items) × (m.next < length m.places.items) × (length m.places.items ≤ MOST_MISSES) };
+    ghost invariant = { λ m. (length m.hints.items ≡ HINTS) × (m.next < length m.places.items) × (length m.places.items ≤ MOST_MISSES) };
 }
 
 impl Missed {
@@ -258,7 +258,7 @@ impl Missed {
         let places = (slots as usize + SPARE_MISSES).min(MOST_MISSES);
         Ok(Missed {
             places: vec![in alloc; Miss::none(); places]?,
-            hints: vec![in alloc; Hint::none(); HINTS * slots as usize]?,
+            hints: vec![in alloc; Hint::none(); HINTS]?,
             next: 0,
         })
     }
@@ -267,7 +267,7 @@ impl Missed {
     fn of(&self, kind: Kind, name: Name) -> Miss
         ensures { result ≡ miss_of self.now (key_with kind name) }
     {
-        let hint = self.hints[hint_of(name, self.hints.len())];
+        let hint = self.hints[hint_of(name)];
         let newer = self.at(hint.last);
         if newer.is_for(kind, name) {
             return newer;
@@ -302,7 +302,7 @@ impl Missed {
         ensures { self.new ≡ with_missed self.old (key_with kind name) number }
     {
         let miss = Miss { number, kind, name };
-        let hint = hint_of(name, self.hints.len());
+        let hint = hint_of(name);
         let last = self.hints[hint].last;
         if self.keeps(last, kind, name) {
             self.places[last as usize] = miss;
@@ -318,14 +318,13 @@ impl Missed {
     }
 }
 
-/// The hint of a name, one of so many, from 0: by the high bits of a product with an odd number, so that names that differ in a digit lie apart.
-fn hint_of(name: Name, count: usize) -> usize
-    requires { IsCount count }
-    ensures { (result ≡ hint_of count name) × (result < count) }
+/// The hint of a name, from 0: the high bits of a product with an odd number, so that names that differ in a digit lie apart.
+fn hint_of(name: Name) -> usize
+    ensures { (result ≡ hint_of name) × (result < HINTS) }
 {
     let (high, low) = name.words();
     let mixed = high.wrapping_add(low).wrapping_mul(MIX);
-    (mixed / HALF * count as u64 / HALF) as usize
+    (mixed / HINT_SPAN) as usize
 }
 
 /// Whether the row is of an entry with this kind and name.

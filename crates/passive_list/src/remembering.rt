@@ -2,7 +2,7 @@
 //! remembers that none had them, and the newest live entry is the same. Beneath it the recall of an entry that a CPU has seen: by one load, in
 //! a section or outside; the length of the list makes no difference, and no word is written.
 
-ghost use Rattle.std.specs.Prelude.{◌≡◌, ◌≢◌, ◌<◌, ◌≤◌, None, ◌↔◌, IfSome, IsTrue, true};
+ghost use Rattle.std.specs.Prelude.{◌≡◌, ◌≢◌, ◌<◌, ◌≤◌, None, ◌↔◌, IfSome, IsTrue, Some, true};
 ghost use Rattle.cpu_words.specs.Common.{AreWordsOf, key_with};
 ghost use Rattle.passive_list.specs.Remembering.{HasRecalledHeadOn, HasRecalledOn, HasRefoundOn, HasSeen, FindsInside, FindsWhatIsKept, FindsWhatStays, HasFoundAnew, HasFoundByMemory, HasFoundInSection, HasFoundKept, HasRecalledByMemory, RefindsSeen, RemembersAnswer};
 ghost use Rattle.passive_list.specs.Memories.{HasNumbered, IsMiss, IsTrueMiss, Recalls, WasAbsent, miss_of, with_miss};
@@ -199,12 +199,29 @@ pub fn find_inside_on(words: &Words, cpu: &mut PlainCpu, kind: Kind, name: Name)
     ensures slot { IfSome result (λ seen. seen.slot < MOST_SLOTS) }
     ensures words { cpu.new.words ≡ cpu.old.words }
 {
-    if let Some(seen) = remembered(cpu, kind, name) {
-        if refind_seen(words, cpu, kind, name, seen) {
-            return Some(seen);
-        }
+    if let Some(seen) = refind_remembered(words, cpu, kind, name) {
+        return Some(seen);
     }
     find_and_remember(words, cpu, kind, name)
+}
+
+/// The entry that the CPU remembers with this kind and name, if it is live: by one load. It is the last found entry then, as `find_inside_on`
+/// finds it. `None` says nothing: the caller searches (`find_and_remember`).
+/// Conditions: the words are the CPU's table's; inside.
+#[inline(always)]
+pub fn refind_remembered(words: &Words, cpu: &mut PlainCpu, kind: Kind, name: Name) -> Option<Seen>
+    requires words { AreWordsOf words.now cpu.old.words.table cpu.old.words.settings }
+    requires inside { cpu.old.cpu.view.begin ≢ None }
+    ensures found { IfSome result (λ seen. FindsInside (key_with kind name) cpu.old.cpu cpu.new.cpu (Some seen)) }
+    ensures missed { result ≡ None → HasRecalledByMemory (key_with kind name) cpu.old.cpu cpu.new.cpu None }
+    ensures slot { IfSome result (λ seen. seen.slot < MOST_SLOTS) }
+    ensures words { cpu.new.words ≡ cpu.old.words }
+{
+    let seen = remembered(cpu, kind, name)?;
+    if refind_seen(words, cpu, kind, name, seen) {
+        return Some(seen);
+    }
+    None
 }
 
 /// Whether an entry that the CPU has seen is live: it is the last found one then.
@@ -221,8 +238,9 @@ fn refind_seen(words: &Words, cpu: &mut PlainCpu, kind: Kind, name: Name, seen: 
 }
 
 /// Searches the list in the open section, and remembers the answer. It stands apart, so that a find by memory saves no register for it.
+/// Conditions: the words are the CPU's table's; inside.
 #[inline(never)]
-fn find_and_remember(words: &Words, cpu: &mut PlainCpu, kind: Kind, name: Name) -> Option<Seen>
+pub fn find_and_remember(words: &Words, cpu: &mut PlainCpu, kind: Kind, name: Name) -> Option<Seen>
     requires words { AreWordsOf words.now cpu.old.words.table cpu.old.words.settings }
     requires inside { cpu.old.cpu.view.begin ≢ None }
     ensures found { HasFoundKept (key_with kind name) cpu.old.cpu cpu.new.cpu result }

@@ -26,11 +26,12 @@ pub fn enter_on(words: &Words, cpu: &mut PlainCpu) -> Result<(), Refusal>
     ensures words { cpu.new.words ≡ cpu.old.words }
 {
     let outside = cpu.depth == 0;
-    enter_answer(cpu.depth, outside, may_begin(words, cpu))?;
     if outside {
+        enter_answer(cpu.depth, true, may_begin(words, cpu))?;
         begin(words, cpu);
         return Ok(());
     }
+    enter_answer(cpu.depth, false, false)?;
     cpu.depth += 1;
     Ok(())
 }

@@ -1,53 +1,51 @@
--- The CPU is inside, and acquires.
-use Rattle.std.proofs.Common.{◌≡◌, ◌≢◌, ◌<◌, None, Ok, Err, inr, refl, sym, ap, subst, ◌∙◌}
+-- The CPU is inside, and acquires: by its last found entry, or else as the rest does.
+use Rattle.std.proofs.Common.{◌≡◌, ◌≢◌, ◌<◌, None, Ok, inl, inr, refl, sym, ap, subst, ◌∙◌}
 use Rattle.c_calls.specs.Types.{ReferenceView}
 use Rattle.passive_list.specs.Common.{OnPlainCpu, OnPlainRef}
 use Rattle.local_count.specs.{AcquiresEntryLocal}
 use Rattle.c_handles.specs.Bodies.{OnLocalBody}
 use Rattle.c_handles.specs.OnHandle.{held_by}
-use Rattle.c_calls.specs.LocalCalls.{AcquiresLocalFor}
-use Rattle.c_calls.proofs.Counted.{acquires_err, acquires_ok}
+use Rattle.c_calls.specs.LocalCalls.{AcquiresLocalInside}
+use Rattle.c_calls.proofs.Counted.{acquires_ok}
 use Rattle.c_calls.proofs.locals.acquire_asked.Goals as goal
 
-pub returns-in-Ok-acquire_entry_local : goal.returns-in-Ok-acquire_entry_local
-returns-in-Ok-acquire_entry_local c =
+pub returns-in-Some : goal.returns-in-Some
+returns-in-Some c =
     let here : c.cpu-2.inside.cpu ≡ c.args.cpu.now = c.cpu-2.view_is ∙ c.take_room.ensures in
     let within : c.args.cpu.now.cpu.view.begin ≢ None = subst (λ (o : OnPlainCpu). o.cpu.view.begin ≢ None) c.cpu.view_is (c.inside.ensures.0 c.if-not-inside.false) in
-    let e = c.in-Ok-acquire_entry_local.ensures in
-    let same = c.read_entry-entry.ensures.same in
-    let table = c.of.ensures.0 ∙ (ap (λ (o : OnPlainRef). o.table) same ∙ (e.table ∙ ap (λ (o : OnPlainCpu). o.words.table) here)) in
-    let is = c.of.ensures.1 ∙ ap (λ (o : OnPlainRef). o.reference) same in
+    let e = c.in-Some.ensures in
+    let g = c.give_acquired.ensures in
     record {
       outside = λ none. absurd (within none);
       inside = λ _. inr (record {
-        r = Ok c.of.result;
+        r = Ok g.0;
         is = refl;
-        answer = subst (λ (o : OnPlainCpu). AcquiresEntryLocal c.args.number c.args.key o.cpu c.acquire_entry_local.new.cpu.cpu (Ok c.of.result) (λ (v : OnLocalBody). v.reference)) here
-            (acquires_ok _ _ _ _ c.in-Ok-acquire_entry_local.reference c.of.result (λ (v : OnPlainRef). v.reference) (λ (v : OnLocalBody). v.reference) (sym is) e.acquired);
+        answer = subst (λ (o : OnPlainCpu). AcquiresEntryLocal c.args.number c.args.key o.cpu c.acquire_last_local.new.cpu.cpu (Ok g.0) (λ (v : OnLocalBody). v.reference)) here
+            (acquires_ok _ _ _ _ c.in-Some.reference g.0 (λ (v : OnPlainRef). v.reference) (λ (v : OnLocalBody). v.reference) (sym g.2) (inl e.acquired));
         ours = (
-          table,
-          subst (λ (v : ReferenceView). v.entry.slot < c.args.cpu.now.words.settings.slots) (sym is)
-              (subst (λ (o : OnPlainCpu). c.in-Ok-acquire_entry_local.reference.reference.entry.slot < o.words.settings.slots) here e.slot),
+          g.1 ∙ (e.table ∙ ap (λ (o : OnPlainCpu). o.words.table) here),
+          subst (λ (v : ReferenceView). v.entry.slot < c.args.cpu.now.words.settings.slots) (sym g.2)
+              (subst (λ (o : OnPlainCpu). c.in-Some.reference.reference.entry.slot < o.words.settings.slots) here e.slot),
         );
-        given = c.give.ensures;
+        given = g.3;
         words = e.words ∙ ap (λ (o : OnPlainCpu). o.words) here;
       });
     }
 
-pub returns-in-Err : goal.returns-in-Err
-returns-in-Err c =
+pub acquire_rest-requires-clause-inside : goal.acquire_rest-requires-clause-inside
+acquire_rest-requires-clause-inside c =
+    let within : c.args.cpu.now.cpu.view.begin ≢ None = subst (λ (o : OnPlainCpu). o.cpu.view.begin ≢ None) c.cpu.view_is (c.inside.ensures.0 c.if-not-inside.false) in
+    let e = c.in_default.ensures in
+    let same : c.acquire_last_local.new.cpu ≡ c.args.cpu.now = (λ i. record { words = e.words i; cpu = e.none refl i }) ∙ (c.cpu-2.view_is ∙ c.take_room.ensures) in
+    subst (λ (o : OnPlainCpu). o.cpu.view.begin ≢ None) (sym same) within
+
+pub returns : goal.returns
+returns c =
     let here : c.cpu-2.inside.cpu ≡ c.args.cpu.now = c.cpu-2.view_is ∙ c.take_room.ensures in
     let within : c.args.cpu.now.cpu.view.begin ≢ None = subst (λ (o : OnPlainCpu). o.cpu.view.begin ≢ None) c.cpu.view_is (c.inside.ensures.0 c.if-not-inside.false) in
-    let e = c.in-Err.ensures in
-    subst (λ (b : OnPlainCpu). AcquiresLocalFor c.args.number c.args.key c.args.cpu.now b c.refused-in-Err.result (held_by c.args.local.now) (held_by c.args.local.now)) (sym c.keep_room.ensures) (record {
+    let e = c.in_default.ensures in
+    let same : c.acquire_last_local.new.cpu ≡ c.args.cpu.now = (λ i. record { words = e.words i; cpu = e.none refl i }) ∙ here in
+    record {
       outside = λ none. absurd (within none);
-      inside = λ _. inr (record {
-        r = Err c.in-Err.refusal;
-        is = c.refused-in-Err.ensures;
-        answer = subst (λ (o : OnPlainCpu). AcquiresEntryLocal c.args.number c.args.key o.cpu c.acquire_entry_local.new.cpu.cpu (Err c.in-Err.refusal) (λ (v : OnLocalBody). v.reference)) here
-            (acquires_err _ _ _ _ c.in-Err.refusal (λ (v : OnPlainRef). v.reference) (λ (v : OnLocalBody). v.reference) e.acquired);
-        ours = tt;
-        given = c.requires.empty;
-        words = e.words ∙ ap (λ (o : OnPlainCpu). o.words) here;
-      });
-    })
+      inside = λ _. inr (subst (λ (o : OnPlainCpu). AcquiresLocalInside c.args.number c.args.key o c.acquire_rest.new.cpu c.acquire_rest.result (held_by c.acquire_rest.new.local)) same c.acquire_rest.ensures);
+    }

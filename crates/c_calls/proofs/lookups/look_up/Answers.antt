@@ -1,6 +1,5 @@
 -- The call on the body is the call through the handle, by the name that was given.
-use Rattle.std.proofs.Common.{◌≡◌, ℕ, Option, sym, ap, subst, ◌∙◌}
-use Rattle.c_handles.specs.declared.values.answer.EntryAnswer.{EntryAnswer}
+use Rattle.std.proofs.Common.{◌≡◌, ℕ, Option, sym, ap, subst}
 use Rattle.c_handles.specs.declared.values.answer.NamedAnswer.{NamedAnswer}
 use Rattle.c_handles.specs.declared.values.plain.CEntry.{CEntry}
 use Rattle.c_handles.specs.declared.values.plain.CName.{CName}
@@ -11,14 +10,15 @@ use Rattle.c_calls.proofs.lookups.look_up.Goals as goal
 pub returns-clause-call : goal.returns-clause-call
 returns-clause-call c =
     let a = c.in-Some.body.now in
-    let call = c.look_up_by-answer in
+    let call = c.look_up_by in
     let b = call.new.cpu in
+    let n = call.result.number in
     let was = c.args.found.value in
     let told = c.with_name-2.result in
-    let number : told.number ≡ call.result = ap (λ (r : NamedAnswer). r.number) c.with_name-2.ensures ∙ ap (λ (r : EntryAnswer). r.number) c.answer-2.ensures in
-    let value : told.place.value ≡ call.new.found.value = ap (λ (r : NamedAnswer). r.place.value) c.with_name-2.ensures ∙ ap (λ (r : EntryAnswer). r.place.value) c.answer-2.ensures in
-    let named = subst (λ (m : Option CName). Asks c.args.kind m call.result ((b ≡ a) × (call.new.found.value ≡ was)) (λ key. LooksUpFor key a b call.result was call.new.found.value)) c.name.ensures.1 call.ensures.call in
-    let numbered = subst (λ (n : ℕ). Asks c.args.kind c.args.name.name n ((b ≡ a) × (call.new.found.value ≡ was)) (λ key. LooksUpFor key a b n was call.new.found.value)) (sym number) named in
+    let number : told.number ≡ n = ap (λ (r : NamedAnswer). r.number) c.with_name-2.ensures in
+    let value : told.place.value ≡ call.result.place.value = ap (λ (r : NamedAnswer). r.place.value) c.with_name-2.ensures in
+    let named = subst (λ (m : Option CName). Asks c.args.kind m n ((b ≡ a) × (call.result.place.value ≡ was)) (λ key. LooksUpFor key a b n was call.result.place.value)) c.name.ensures.1 call.ensures.call in
+    let numbered = subst (λ (k : ℕ). Asks c.args.kind c.args.name.name k ((b ≡ a) × (call.result.place.value ≡ was)) (λ key. LooksUpFor key a b k was call.result.place.value)) (sym number) named in
     through_some c.args.cpu.now.body a b told.number (told.place.value ≡ was)
     (λ x y. Asks c.args.kind c.args.name.name told.number ((y ≡ x) × (told.place.value ≡ was)) (λ key. LooksUpFor key x y told.number was told.place.value)) c.in-Some.ensures.value
     (subst (λ (v : Option CEntry). Asks c.args.kind c.args.name.name told.number ((b ≡ a) × (v ≡ was)) (λ key. LooksUpFor key a b told.number was v)) (sym value) numbered)
