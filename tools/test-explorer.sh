@@ -111,6 +111,7 @@ traced() {
 }
 
 has_packages explorer || finish
+netbsd/named.sh
 check "explorer.h alone, in four C standards" header_alone explorer.h -DKUPALDIZ_EXPLORER -Inetbsd/include -Iexplorer
 counted "each call has a point, or a reason for none" $folder/tests/told.py points
 for way in plain sanitized; do

@@ -6,7 +6,7 @@
 First those of RULES. Then, for each place of the sources where a step says what it touches: the step doesn't say it; or it says that it reads what it writes.
 At last no fault: steps say no more than two things that they touch, and commute with nothing if they touch more. So the outcomes are still the same.
 `outcomes` shows what the search with the reduction comes to. A fault is told where that differs from what it comes to without one: in an outcome or a fault,
-or at least in the number of runs. A rule's fault is told, too, where one of the random programs comes to something else than without the reduction. The last
+or at least in the number of runs. It is told, too, where one of the written and random `programs` comes to something else than without the reduction. The last
 line is 'N passed, M failed'.
 """
 import os
@@ -114,9 +114,10 @@ def build(folder, link, words):
     return folder / "outcomes"
 
 
-def differs(folder):
-    """Whether one of some random programs comes to something else than without the reduction: which."""
-    ran = subprocess.run([folder / "programs", "count", "300", "1"], stdout=subprocess.PIPE, stderr=subprocess.STDOUT, text=True, check=False)
+def differs(folder, planted=0):
+    """Whether one of some written and random programs comes to something else than without the reduction: which."""
+    ran = subprocess.run([folder / "programs", "count", "300", "1"], stdout=subprocess.PIPE, stderr=subprocess.STDOUT, text=True, check=False,
+                         env={**os.environ, "PLANTED": str(planted)})
     return ran.stdout.split("\n")[0] if ran.returncode != 0 else None
 
 
@@ -164,8 +165,9 @@ def main():
         said = run(build(folder / rule.name, link, compiles))
         passed.append(judge(rule.name, right, said, differs(folder / rule.name)))
     with ThreadPoolExecutor(os.cpu_count()) as pool:
-        for name, said in zip(names, pool.map(lambda number: run(program, number), range(1, len(names) + 1))):
-            passed.append(judge(name, right, said))
+        numbers = range(1, len(names) + 1)
+        for number, name, said in zip(numbers, names, pool.map(lambda number: run(program, number), numbers)):
+            passed.append(judge(name, right, said, differs(touches, number) if said == right else None))
     passed.append(holds_with_small_sets(prepared("small sets"), link, compiles))
     print(f"{sum(passed)} passed, {len(passed) - sum(passed)} failed")
     sys.exit(not all(passed))
