@@ -18,11 +18,11 @@ static uint32_t hash(const void *key, uint32_t length, uint32_t seed)
 
 static void open_table(unsigned threads, uint64_t entries)
 {
-    char *words[] = {"big", "--no-huge", "-m", "1024", "--no-pci", "--in-memory", "--no-telemetry", "--log-level=1", NULL};
+    char *words[] = {"big", "--no-shconf", "--no-huge", "-m", "1024", "--no-pci", "--log-level=1", NULL};
     struct rte_hash_parameters parameters = {.name = "big", .entries = (uint32_t)(entries < 8 ? 8 : entries), .key_len = sizeof(struct name), .hash_func = hash,
         .extra_flag = RTE_HASH_EXTRA_FLAGS_RW_CONCURRENCY_LF};
     (void)threads;
-    if (rte_eal_init(8, words) < 0 || (table = rte_hash_create(&parameters)) == NULL)
+    if (rte_eal_init(7, words) < 0 || (table = rte_hash_create(&parameters)) == NULL)
         fail("no table");
     state = aligned_alloc(64, (rte_rcu_qsbr_get_memsize(MOST_THREADS) + 63) & ~(size_t)63);
     if (state == NULL || rte_rcu_qsbr_init(state, MOST_THREADS) != 0)
