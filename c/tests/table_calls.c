@@ -262,7 +262,7 @@ static void test_numbers_of_none(uint64_t entries)
 static void test_life(void)
 {
 	const struct kupaldiz_name name = name_of("eth0");
-	struct kupaldiz_passive passive = {0};
+	struct kupaldiz_passive passive = {0}, copy;
 	struct kupaldiz_entry found, gone, next;
 	struct kupaldiz_met met;
 	const struct kupaldiz_entry made = attached(&name, 7);
@@ -276,8 +276,11 @@ static void test_life(void)
 	EXPECT(same_entry(&gone, &made) && next.value == 8 && next.number != made.number);
 	IS(STILL_HELD, kupaldiz_table_destroy(&own, gone.number, &PAST, &met));
 	EXPECT(met.stage == KUPALDIZ_PASSIVE && met.what == own.number);
+	copy = passive;
 	DONE(kupaldiz_table_release(&own, &passive));
 	IS(EMPTY_HANDLE, kupaldiz_table_release(&own, &passive));
+	IS(NOT_HELD, kupaldiz_table_release(&own, &copy));
+	EXPECT(same_entry(&copy.entry, &made));
 	DONE(kupaldiz_table_destroy(&own, gone.number, NULL, &met));
 	EXPECT(met.stage == KUPALDIZ_FREED && met.what == made.slot);
 	IS(NOT_RETIRED, kupaldiz_table_destroy(&own, gone.number, NULL, NULL));
@@ -288,9 +291,9 @@ static void test_life(void)
 }
 
 /* A local reference with its copies, an audit of what it holds, and who is told. */
-static void test_locals(void)
+static void test_locals(unsigned id)
 {
-	const struct kupaldiz_name name = name_of("lo0");
+	const struct kupaldiz_name name = id_name(id);
 	const struct kupaldiz_entry made = attached(&name, 9);
 	struct kupaldiz_local local = {0}, copy = {0};
 	struct kupaldiz_balance balance;
@@ -585,9 +588,11 @@ static void test_closing(void)
 	attached(&name, 1);
 	IS(STILL_HELD, kupaldiz_table_close(&table));
 	DONE(kupaldiz_table_get(&own, &name, &passive));
+	DONE(kupaldiz_table_give(&own));
 	IS(STILL_HELD, kupaldiz_table_close(&table));
-	DONE(kupaldiz_table_get_local(&own, &name, &local));
+	DONE(kupaldiz_table_take(&table, NULL, &own));
 	DONE(kupaldiz_table_release(&own, &passive));
+	DONE(kupaldiz_table_get_local(&own, &name, &local));
 	DONE(kupaldiz_table_give(&own));
 	IS(STILL_HELD, kupaldiz_table_close(&table));
 	DONE(kupaldiz_table_take(&table, NULL, &own));
@@ -630,7 +635,8 @@ int main(void)
 		test_arguments();
 		test_numbers_of_none(entries);
 		test_life();
-		test_locals();
+		for (unsigned id = 0; id < 10; id++)
+			test_locals(id);
 		test_deferred();
 		test_walk(10);
 		test_threads();
