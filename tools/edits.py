@@ -40,7 +40,7 @@ STATE = re.compile(r"^fn (\S+): (.*)$", re.M)
 GONE = r"has no field|is not in scope|has no `|was not admitted"
 GOAL = re.compile(rf"^(?:note: |\./)?((?:src|specs|proofs)/\S+:\d+:\d+: (?!.*(?:{GONE})).*(?:not proved|error).*)$", re.M)
 UNREAD = re.compile(r"^(?:\./)?(?:src|specs)/\S+: error.*|^error\[.*", re.M)
-ENDED = re.compile(r"^only=.*\Z", re.M)
+ENDED = re.compile(r"^(?:only|logic)=.*\Z", re.M)
 Change = collections.namedtuple("Change", "path old new")
 
 
@@ -103,7 +103,8 @@ def function_of(edit):
 
 
 def asked_for(edit):
-    """The functions to check: those of its line `only`, or the one whose body it changes. A method is named by its type, a function by its module."""
+    """The functions to check: those of its line `only`, or the one whose body it changes; else none, for the whole crate. A method is named by its type, a
+    function by its module."""
     if named := re.search(r"^    only: (.+)$", edit.text, re.M):
         return named[1].split()
     function = function_of(edit)
@@ -144,11 +145,12 @@ def is_of(goal, edit, paths):
 
 def judged(edit, said, is_alone):
     """What refuses the edit, or '', and else what is wrong, by what a check said. Of an edit tried beside others a goal of its own function must say it."""
-    own = {path: state for path, state in STATE.findall(said) if any(f"::{path}".endswith(f"::{it}") for it in asked_for(edit))}
-    if not own or not ENDED.search(said) or UNREAD.search(said):
+    names = asked_for(edit)
+    own = {path: state for path, state in STATE.findall(said) if not names or any(f"::{path}".endswith(f"::{it}") for it in names)}
+    if names and not own or not ENDED.search(said) or UNREAD.search(said):
         return "", f"NOT TRIED: {next(iter(UNREAD.findall(said)), said[-300:])}"
     if all(state == "proved" for state in own.values()):
-        return "", f"NOT REFUSED: {', '.join(own)} still proved"
+        return "", f"NOT REFUSED: {', '.join(own) or 'the whole crate'} still proved"
     found = [it for it in GOAL.findall(said) if is_alone or is_of(it, edit, own)]
     found += [state for state in own.values() if state.startswith("no proof")]
     return (found[0][:200], "") if found else ("", "NOT TRIED: it is refused only because a proof names what it took away")

@@ -24,7 +24,6 @@ Package = collections.namedtuple("Package", "names shown parts")
 FACE = "page build c watched heap netbsd explorer rust rust-watched"
 # What the parts are called where a user reads of them.
 PARTS = {
-    "tools": "the tools themselves",
     "archive": "tools/build-archive.sh",
     "page": "the manual pages",
     "build": "the clients in C are built",
@@ -38,10 +37,10 @@ PARTS = {
     "aarch64": "aarch64, under qemu",
 }
 PACKAGES = [Package(names, shown, parts.split()) for names, shown, parts in (
-    ("git", "git", "tools c"),
-    ("gcc libc6-dev", "gcc", f"tools archive aarch64 {FACE}"),
-    ("binutils", "ar", f"tools archive aarch64 {FACE}"),
-    ("make", "make", f"tools aarch64 {FACE}"),
+    ("git", "git", "c"),
+    ("gcc libc6-dev", "gcc", f"archive aarch64 {FACE}"),
+    ("binutils", "ar", f"archive aarch64 {FACE}"),
+    ("make", "make", f"aarch64 {FACE}"),
     ("g++", "g++", "page c netbsd explorer"),
     ("pkg-config", "pkg-config", "c"),
     ("man-db", "man", "c"),
