@@ -141,7 +141,7 @@ test_c() {
 
 # The same programs, where each access of the client's, or of all, is watched.
 test_watched() {
-    programs C: " under valgrind" "watched all $out/" smallest walk packet 'shared 20' misuse built interrupted reclaims lent 'replaces 500' 'history 1000 1 small' names
+    programs C: " under valgrind" "watched all $out/" smallest walk packet 'shared 20' misuse built interrupted reclaims lent 'replaces 500' 'history 1000 1 small' names 'script examples/travelling-count.txt'
     programs C: " with sanitizers" "$out/sanitized-" smallest walk misuse packet 'shared 500' built reclaims lent 'replaces 5000' 'table 2000' table_calls 'table_model 2000' 'history 100000' names forwarder device_switch
 }
 

@@ -65,9 +65,19 @@ enum kupaldiz_result __wrap_kupaldiz_destroy(struct kupaldiz_keeper *of, uint64_
 	return result;
 }
 
+/* Whether this thread can be cancelled. */
+static bool is_cancellable(void)
+{
+	int state;
+	EXPECT(pthread_setcancelstate(PTHREAD_CANCEL_DISABLE, &state) == 0);
+	EXPECT(pthread_setcancelstate(state, NULL) == 0);
+	return state == PTHREAD_CANCEL_ENABLE;
+}
+
 /* The list tells what the last turn has freed. */
 static void note(void *of, const struct kupaldiz_entry *entry)
 {
+	EXPECT(!is_cancellable());
 	EXPECT(of == &told && told + 1 == gone.count && same_entry(entry, &gone.at[told]));
 	told++;
 }
@@ -99,7 +109,7 @@ static bool is_any_inside(void)
 static void make_call(struct kupaldiz_call *call)
 {
 	struct thing *thing = (struct thing *)call;
-	EXPECT(is_under_way && thing->place == called++ && !is_held(thing));
+	EXPECT(is_under_way && thing->place == called++ && !is_held(thing) && !is_cancellable());
 	memset(thing, 0xdb, sizeof *thing);
 	free(thing);
 }
@@ -129,7 +139,7 @@ static void begin_turns(void)
 static void end_turns(void)
 {
 	is_under_way = false;
-	EXPECT(told == gone.count && gone.count + left.count == waiting.count);
+	EXPECT(is_cancellable() && told == gone.count && gone.count + left.count == waiting.count);
 	waiting = left;
 	expect_list();
 	most_freed = gone.count > most_freed ? gone.count : most_freed;
