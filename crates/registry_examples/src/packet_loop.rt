@@ -1,16 +1,18 @@
 //! A packet loop: four CPUs look up the interface of each packet, thirty-two packets to a section, while a fifth pulls the interface out
-//! and plugs it in again. At the end the driver goes, and the registry is closed: what its last words say of the driver is proved by what
-//! holds of every run that has ended.
+//! and plugs it in again. At the end the driver goes, and the registry is closed. What its last words say of the driver, and how often a
+//! slot was freed, is proved by what holds of every run that has ended.
 
-ghost use Rattle.std.specs.Prelude.{◌≡◌, ◌≢◌, ◌<◌, IfOk, IsTrue, None};
+ghost use Rattle.std.specs.Prelude.{◌≡◌, ◌≢◌, ◌<◌, ◌≤◌, ◌+◌, IfOk, IsTrue, None, slice_index};
+ghost use mathlib.Core.List.{IsPrefix};
 ghost use Rattle.std.specs.Thread.{IsSync};
-ghost use Rattle.cpu_words.specs.Common.{IsFreedFrom};
+ghost use Rattle.cpu_words.specs.Common.{IsFreedFrom, index, live_of};
 ghost use Rattle.registry_values.specs.Common.{is_key};
 ghost use Rattle.name_registry.specs.Common.{IsBlankOf};
+ghost use Rattle.registry_examples.specs.{HasFreed, frees_in};
 
 use crate::failure::Failure;
-use cpu_words::Domain;
-use local_count::acquire_local;
+use cpu_words::{Domain, LastWords};
+use local_count::{LocalRef, acquire_local};
 use name_registry::{Blank, Registry};
 use passive_list::{Cpu, enter, exit, find};
 use passive_ref::{Psref, acquire, read, release};
@@ -29,7 +31,7 @@ const BATCHES: u64 = 256;
 
 const BATCH: u64 = 32;
 /// How often the interface is plugged in, with the values 1, 2, .. 8, and how many batches are carried before it is pulled out again.
-const PLUGS: u64 = 8;
+pub const PLUGS: u64 = 8;
 
 const BATCHES_A_PLUG: u64 = 96;
 /// After so many turns CPU 4 waits no longer for batches.
@@ -61,11 +63,14 @@ struct Bus<'a, D: Domain> {
 #[derive(Clone, Copy)]
 struct Tally([u64; 9]);
 
-/// Runs the loop on a registry of its own.
+/// Runs the loop on a registry of its own. Returns what it did, and the last words of the registry: they are those of a run in which a slot
+/// was freed as often as the sum says, and the driver's once.
 pub fn run_packet_loop<R: Threads + Wait + Sync>(
     rt: &R,
     alloc: Global,
-) -> Result<PacketSum, Failure> {
+) -> Result<(PacketSum, LastWords), Failure>
+    ensures ran { IfOk result (λ ran. HasFreed ran.1.settings ran.1.words (ran.0.freed + 1)) }
+{
     let settings = Settings {
         cpus: CARRIERS + 1,
         slots: 2,
@@ -79,38 +84,42 @@ pub fn run_packet_loop<R: Threads + Wait + Sync>(
 }
 
 /// The same, on this registry. D names it, so that its CPUs and references can't be taken for another's.
+#[tactic(auto, using(crate::proofs::Frees::freed_besides))]
 fn run_on<D: Domain + Send + Sync, R: Threads + Wait + Sync>(
     rt: &R,
     alloc: Global,
     blank: Blank,
-) -> Result<PacketSum, Failure>
+) -> Result<(PacketSum, LastWords), Failure>
     requires table { IsBlankOf blank D.table D.settings D.name D.parts }
+    ensures ran { IfOk result (λ ran. HasFreed ran.1.settings ran.1.words (ran.0.freed + 1)) }
 {
     let Ok((registry, mut cpus)) = blank.open::<D>(alloc) else {
         return Err(Failure::Memory(AllocError));
     };
-    let Some(mut cpu) = cpus.pop() else {
+    let Some(cpu) = cpus.pop() else {
         return Err(Failure::Wrong("a registry without CPUs"));
     };
-    let sum = run_bus(rt, &registry, &mut cpu, cpus)?;
+    let (sum, mut cpu) = run_bus(rt, &registry, cpu, cpus)?;
     let driver = unload_driver(rt, &registry, &mut cpu)?;
-    close(registry, cpu, driver);
-    Ok(sum)
+    Ok((sum, close(registry, cpu, driver)))
 }
 
-/// With the driver loaded, the loop itself. All threads have ended at the end.
+/// With the driver loaded, the loop itself. All threads have ended at the end. Returns the CPU too, which knows of each free.
 fn run_bus<D: Domain + Send + Sync, R: Threads + Wait + Sync>(
     rt: &R,
     registry: &Registry<D>,
-    cpu: &mut Cpu<D>,
+    mut cpu: Cpu<D>,
     carriers: Vec<Cpu<D>>,
-) -> Result<PacketSum, Failure> {
+) -> Result<(PacketSum, Cpu<D>), Failure>
+    ensures freed { IfOk result (λ ran. ran.0.freed ≤ frees_in ran.1.known_log) }
+{
     let bus = Bus::new(registry)?;
-    bus.load_driver(rt, cpu)?;
+    bus.load_driver(rt, &mut cpu)?;
     carry_and_plug(rt, &bus, cpu, carriers)
 }
 
 /// Detaches the driver and destroys it. Returns its entry: it had that slot.
+#[tactic(auto, using(crate::proofs::Frees::detached_destroyed))]
 fn unload_driver<D: Domain, R: Wait>(
     rt: &R,
     registry: &Registry<D>,
@@ -118,40 +127,47 @@ fn unload_driver<D: Domain, R: Wait>(
 ) -> Result<(u8, u64), Failure>
     ensures slot { IfOk result (λ gone. gone.0 < D.settings.slots) }
     ensures gone { IfOk result (λ gone. IsFreedFrom gone.0 gone.1 cpu.new.known_log) }
+    ensures freed { IfOk result (λ _. frees_in cpu.old.known_log < frees_in cpu.new.known_log) }
 {
     let driver = registry.detach(rt, cpu, Kind::Driver, &Name::parse(b"wm")?)?;
     let slot = registry.destroy(rt, cpu, driver.number, u32::MAX)?;
     Ok((slot, driver.number))
 }
 
-/// Ends the registry, and returns what the live word of the driver's slot is then. One list of events of all threads led to it, on any
-/// schedule, so it isn't the driver's number.
-fn close<D: Domain>(registry: Registry<D>, cpu: Cpu<D>, driver: (u8, u64)) -> u64
+/// Ends the registry, and returns its last words. One list of events of all threads led to them, on any schedule. So the live word of the
+/// driver's slot isn't the driver's number, and a slot was freed at least as often as the CPU knows.
+fn close<D: Domain>(registry: Registry<D>, cpu: Cpu<D>, driver: (u8, u64)) -> LastWords
     requires slot { driver.0 < D.settings.slots }
     requires gone { IsFreedFrom driver.0 driver.1 cpu.known_log }
-    ensures { result ≢ driver.1 }
+    ensures gone { slice_index result.words (index result.settings (live_of driver.0)) ≢ driver.1 }
+    ensures ran { HasFreed result.settings result.words (frees_in cpu.known_log) }
 {
-    let words = registry.close(cpu);
-    words.live(driver.0)
+    // The contract alone speaks of the driver.
+    let _driver = driver;
+    registry.close(cpu)
 }
 
 /// All at once: this CPU plugs the interface in and out, and each of the others carries packets on a thread of its own.
 fn carry_and_plug<D: Domain + Send + Sync, R: Threads + Wait + Sync>(
     rt: &R,
     bus: &Bus<D>,
-    cpu: &mut Cpu<D>,
+    cpu: Cpu<D>,
     carriers: Vec<Cpu<D>>,
-) -> Result<PacketSum, Failure> {
-    let (freed, tallies) = join(
+) -> Result<(PacketSum, Cpu<D>), Failure>
+    ensures freed { IfOk result (λ ran. ran.0.freed ≤ frees_in ran.1.known_log) }
+{
+    let (plugged, tallies) = join(
         rt,
         || bus.plug_all(rt, cpu),
         || map_vec(rt, carriers, &|carrier: Cpu<D>| bus.carry_all(carrier)),
     );
-    Ok(PacketSum {
+    let (freed, cpu) = plugged?;
+    let sum = PacketSum {
         packets: u64::from(CARRIERS) * BATCHES * BATCH,
         counted: all_counted(tallies?)?,
-        freed: freed?,
-    })
+        freed,
+    };
+    Ok((sum, cpu))
 }
 
 /// The packets that all carriers have counted.
@@ -245,29 +261,30 @@ impl<'a, D: Domain> Bus<'a, D> {
         Ok(())
     }
 
-    /// Attaches the interface and detaches it, again and again. Returns how often its slot was freed.
-    fn plug_all<R: Wait>(&self, rt: &R, cpu: &mut Cpu<D>) -> Result<u64, Failure> {
+    /// Attaches the interface and detaches it, again and again. Returns how often its slot was freed, and the CPU, which knows of each time.
+    #[tactic(auto, using(crate::proofs::Frees::once_more))]
+    fn plug_all<R: Wait>(&self, rt: &R, mut cpu: Cpu<D>) -> Result<(u64, Cpu<D>), Failure>
+        ensures freed { IfOk result (λ freed. freed.0 ≤ frees_in freed.1.known_log) }
+    {
         for plug in 0..PLUGS {
-            self.plug_in(rt, cpu, plug + 1)?;
+            self.plug_in(rt, &mut cpu, plug + 1)?;
             self.wait_for_batches((plug + 1) * BATCHES_A_PLUG);
-            self.pull_out(rt, cpu)?;
+            self.pull_out(rt, &mut cpu)?;
         }
-        Ok(PLUGS)
+        Ok((PLUGS, cpu))
     }
 
     /// Attaches the interface. Its slot keeps a reference to the driver, which can't go before it.
-    fn plug_in<R: Wait>(&self, rt: &R, cpu: &mut Cpu<D>, value: u64) -> Result<(), Failure> {
-        let words = self.registry.words();
-        enter(words, cpu)?;
-        find(words, cpu, Kind::Driver, &self.driver);
-        let driver = acquire_local(words, cpu);
-        exit(words, cpu);
+    fn plug_in<R: Wait>(&self, rt: &R, cpu: &mut Cpu<D>, value: u64) -> Result<(), Failure>
+        ensures known { IfOk result (λ _. IsPrefix cpu.old.known_log cpu.new.known_log) }
+    {
+        let driver = self.take_driver(cpu)?;
         let rec = Record {
             kind: Kind::Iface,
             name: self.iface,
             value,
         };
-        match self.registry.attach_iface(rt, cpu, rec, driver?) {
+        match self.registry.attach_iface(rt, cpu, rec, driver) {
             Ok(_entry) => Ok(()),
             Err((refusal, driver)) => {
                 self.registry.release_local(rt, cpu, driver);
@@ -276,8 +293,23 @@ impl<'a, D: Domain> Bus<'a, D> {
         }
     }
 
+    /// Acquires a local reference to the driver, in a section of its own.
+    fn take_driver(&self, cpu: &mut Cpu<D>) -> Result<LocalRef<D>, Failure>
+        ensures known { IfOk result (λ _. cpu.new.known_log ≡ cpu.old.known_log) }
+    {
+        let words = self.registry.words();
+        enter(words, cpu)?;
+        find(words, cpu, Kind::Driver, &self.driver);
+        let driver = acquire_local(words, cpu);
+        exit(words, cpu);
+        Ok(driver?)
+    }
+
     /// Detaches the interface, and waits until nobody holds it: the sections that were open, and the passive references.
-    fn pull_out<R: Wait>(&self, rt: &R, cpu: &mut Cpu<D>) -> Result<(), Failure> {
+    #[tactic(auto, using(crate::proofs::Frees::detached_destroyed))]
+    fn pull_out<R: Wait>(&self, rt: &R, cpu: &mut Cpu<D>) -> Result<(), Failure>
+        ensures freed { IfOk result (λ _. frees_in cpu.old.known_log < frees_in cpu.new.known_log) }
+    {
         let entry = self.registry.detach(rt, cpu, Kind::Iface, &self.iface)?;
         self.registry.destroy(rt, cpu, entry.number, u32::MAX)?;
         Ok(())
