@@ -1,6 +1,6 @@
 //! Local references, through the handles of a CPU and the keeper. C has a reference as a value: its entry, and a pointer to its block.
 
-ghost use Rattle.std.specs.Prelude.{◌≡◌, ◌<◌, Some, None, true, false, length};
+ghost use Rattle.std.specs.Prelude.{◌≡◌, ◌≢◌, ◌<◌, Some, None, true, false, length};
 ghost use Rattle.cpu_words.specs.Common.{IsFoundCollected, key_with};
 ghost use Rattle.passive_list.specs.Common.{HasGivenUp};
 ghost use Rattle.c_handles.specs.Bodies.{IsReferenceOf, OnLocal, OnLocalBody};
@@ -185,7 +185,7 @@ fn acquire_rest(
     }
 }
 
-/// Puts a reference and its entry into the handle, in that block. Condition: the handle is empty.
+/// Puts a new reference and its entry into the handle, in that block. Condition: the handle is empty.
 #[inline(always)]
 fn give_acquired(
     words: &Words,
@@ -194,6 +194,7 @@ fn give_acquired(
     local: &mut LocalHandle,
 )
     requires words { (words.now.table ≡ reference.table) × (reference.reference.entry.slot < words.now.settings.slots) }
+    requires fresh { reference.reference.collected ≡ None }
     requires empty { held_by local.old ≡ None }
     ensures { (v : OnLocalBody) × (v.table ≡ reference.table) × (v.reference ≡ reference.reference) × (held_by local.new ≡ Some (record { held = v; copied = false })) }
 {

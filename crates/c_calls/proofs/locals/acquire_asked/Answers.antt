@@ -35,7 +35,7 @@ returns-in-Some c =
 pub acquire_rest-requires-clause-inside : goal.acquire_rest-requires-clause-inside
 acquire_rest-requires-clause-inside c =
     let within : c.args.cpu.now.cpu.view.begin ≢ None = subst (λ (o : OnPlainCpu). o.cpu.view.begin ≢ None) c.cpu.view_is (c.inside.ensures.0 c.if-not-inside.false) in
-    let e = c.in_default.ensures in
+    let e = c.in_default-acquire_last_local.ensures in
     let same : c.acquire_last_local.new.cpu ≡ c.args.cpu.now = (λ i. record { words = e.words i; cpu = e.none refl i }) ∙ (c.cpu-2.view_is ∙ c.take_room.ensures) in
     subst (λ (o : OnPlainCpu). o.cpu.view.begin ≢ None) (sym same) within
 
@@ -43,7 +43,7 @@ pub returns : goal.returns
 returns c =
     let here : c.cpu-2.inside.cpu ≡ c.args.cpu.now = c.cpu-2.view_is ∙ c.take_room.ensures in
     let within : c.args.cpu.now.cpu.view.begin ≢ None = subst (λ (o : OnPlainCpu). o.cpu.view.begin ≢ None) c.cpu.view_is (c.inside.ensures.0 c.if-not-inside.false) in
-    let e = c.in_default.ensures in
+    let e = c.in_default-acquire_last_local.ensures in
     let same : c.acquire_last_local.new.cpu ≡ c.args.cpu.now = (λ i. record { words = e.words i; cpu = e.none refl i }) ∙ here in
     record {
       outside = λ none. absurd (within none);

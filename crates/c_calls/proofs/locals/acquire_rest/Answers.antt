@@ -10,20 +10,20 @@ use Rattle.c_calls.specs.LocalCalls.{AcquiresLocalInside}
 use Rattle.c_calls.proofs.Counted.{acquires_err, acquires_ok}
 use Rattle.c_calls.proofs.locals.acquire_rest.Goals as goal
 
-pub returns-in-Ok-acquire_entry_local : goal.returns-in-Ok-acquire_entry_local
-returns-in-Ok-acquire_entry_local c =
+pub returns-in-Ok : goal.returns-in-Ok
+returns-in-Ok c =
     let here = c.cpu.view_is in
-    let e = c.in-Ok-acquire_entry_local.ensures in
+    let e = c.in-Ok.ensures in
     let g = c.give_acquired.ensures in
     record {
       r = Ok g.0;
       is = refl;
       answer = subst (λ (o : OnPlainCpu). AcquiresEntryLocal c.args.number (key_with c.args.kind c.args.name) o.cpu c.acquire_entry_local.new.cpu.cpu (Ok g.0) (λ (v : OnLocalBody). v.reference)) here
-          (acquires_ok _ _ _ _ c.in-Ok-acquire_entry_local.reference g.0 (λ (v : OnPlainRef). v.reference) (λ (v : OnLocalBody). v.reference) (sym g.2) e.acquired);
+          (acquires_ok _ _ _ _ c.in-Ok.reference g.0 (λ (v : OnPlainRef). v.reference) (λ (v : OnLocalBody). v.reference) (sym g.2) e.acquired);
       ours = (
         g.1 ∙ (e.table ∙ ap (λ (o : OnPlainCpu). o.words.table) here),
         subst (λ (v : ReferenceView). v.entry.slot < c.args.cpu.now.words.settings.slots) (sym g.2)
-            (subst (λ (o : OnPlainCpu). c.in-Ok-acquire_entry_local.reference.reference.entry.slot < o.words.settings.slots) here e.slot),
+            (subst (λ (o : OnPlainCpu). c.in-Ok.reference.reference.entry.slot < o.words.settings.slots) here e.slot),
       );
       given = g.3;
       words = e.words ∙ ap (λ (o : OnPlainCpu). o.words) here;
@@ -33,9 +33,9 @@ pub returns-in-Err : goal.returns-in-Err
 returns-in-Err c =
     let here = c.cpu.view_is in
     let e = c.in-Err.ensures in
-    subst (λ (b : OnPlainCpu). AcquiresLocalInside c.args.number (key_with c.args.kind c.args.name) c.args.cpu.now b c.refused-in-Err.result (held_by c.args.local.now)) (sym c.keep_room.ensures) (record {
+    subst (λ (b : OnPlainCpu). AcquiresLocalInside c.args.number (key_with c.args.kind c.args.name) c.args.cpu.now b c.refused.result (held_by c.args.local.now)) (sym c.keep_room.ensures) (record {
       r = Err c.in-Err.refusal;
-      is = c.refused-in-Err.ensures;
+      is = c.refused.ensures;
       answer = subst (λ (o : OnPlainCpu). AcquiresEntryLocal c.args.number (key_with c.args.kind c.args.name) o.cpu c.acquire_entry_local.new.cpu.cpu (Err c.in-Err.refusal) (λ (v : OnLocalBody). v.reference)) here
           (acquires_err _ _ _ _ c.in-Err.refusal (λ (v : OnPlainRef). v.reference) (λ (v : OnLocalBody). v.reference) e.acquired);
       ours = tt;

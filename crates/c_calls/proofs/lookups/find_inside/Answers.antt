@@ -1,7 +1,8 @@
 -- What the fast path found is written. What it didn't answer the rest does.
 use Rattle.std.proofs.Common.{◌≡◌, Option, None, Some, inl, inr, refl, sym, ap, subst, ◌∙◌}
 use Rattle.c_calls.specs.Types.{Key}
-use Rattle.passive_list.specs.Common.{HasRecalledByMemory, OnCpu, OnPlainCpu, Seen, entry_seen}
+use Rattle.passive_list.specs.Common.{HasRecalledByMemory, OnCpu, OnPlainCpu, entry_seen}
+use Rattle.passive_list.specs.declared.lookup.Seen.{Seen}
 use Rattle.name_registry.specs.LookingUp.{LooksInside, found_or}
 use Rattle.c_handles.specs.declared.values.answer.EntryAnswer.{EntryAnswer}
 use Rattle.c_handles.specs.declared.values.plain.CEntry.{CEntry}
@@ -14,9 +15,10 @@ still_begun key a c (None, at, had) = ap (λ (x : OnCpu). x.view.begin) had.1
 still_begun key a c (Some s, at, inl had) = let clash : ◌≡◌ {A = Option Seen} None (Some s) = had.0 in cc
 still_begun key a c (Some s, at, inr had) = ap (λ (x : OnCpu). x.view.begin) had.1.is
 
-pub find_rest-requires-clause-inside : goal.find_rest-requires-clause-inside
-find_rest-requires-clause-inside c none =
-    c.requires.inside (sym (still_begun c.args.key _ _ (c.in_default.ensures.missed refl) ∙ ap (λ (o : OnPlainCpu). o.cpu.view.begin) c.cpu.view_is) ∙ none)
+pub find_rest-requires : goal.find_rest-requires
+find_rest-requires c = record {
+  inside = λ none. c.requires.inside (sym (still_begun c.args.key _ _ (c.in_default.ensures.missed refl) ∙ ap (λ (o : OnPlainCpu). o.cpu.view.begin) c.cpu.view_is) ∙ none);
+}
 
 pub returns-in-Some-clause-call : goal.returns-in-Some-clause-call
 returns-in-Some-clause-call c =
