@@ -65,7 +65,7 @@ USERS = ("README.md", "bench/README.md", "packaging/VERSIONS.md", "packaging/INS
 ROUGH = ("bench/README.md",)
 MOST_COLUMNS = 100
 # Pages whose tables are still to be worked over.
-LONG_TABLES = ("bench/README.md", "docs/GUARANTEES.md", "docs/PROOFS.md")
+LONG_TABLES = ("bench/README.md", "docs/GUARANTEES.md")
 MOST_CELLS, MOST_WORDS = 5, 10
 CELLS = re.compile(r"(?<!\\)\|")
 # A line that nothing can break.
