@@ -61,11 +61,9 @@ USERS = ("README.md", "bench/README.md", "packaging/VERSIONS.md", "packaging/INS
          "man/*.7", "man/kupaldiz*.in", "netbsd/include/kupaldiz/*.h", "rust/README.md", "crates/registry_c/include/kupaldiz.h",
          "docs/CHOOSING.md", "docs/SCRIPTS.md", "docs/TUTORIAL-C.md", "docs/ERRORS.md", "docs/HOW-IT-WORKS.md", "docs/PROVED.md", "docs/RUST-RULES.md",
          "docs/NETBSD.md", "docs/HOWTO-DRIVERS.md", "docs/HOWTO-RUST.md", "explorer/README.md")
-# Pages that are still to be worked over: their prose has more columns, and links say nothing.
-ROUGH = ("bench/README.md",)
 MOST_COLUMNS = 100
 # Pages whose tables are still to be worked over.
-LONG_TABLES = ("bench/README.md", "docs/GUARANTEES.md")
+LONG_TABLES = ("docs/GUARANTEES.md",)
 MOST_CELLS, MOST_WORDS = 5, 10
 CELLS = re.compile(r"(?<!\\)\|")
 # A line that nothing can break.
@@ -168,9 +166,8 @@ def checks_of(path, words):
         yield "links", list(broken(path, prose))
         strange = set(unknown(prose, words))
         yield "names", sorted(it for it in strange if name != EARLIER[0] or not EARLIER[1].fullmatch(it.rpartition(" ")[2]))
-        if not is_one_of(name, ROUGH):
-            yield "columns", list(too_long(without_code(text)))
-            yield "texts of links", [f"'{it}'" for it in TEXT.findall(prose) if it.lower() in EMPTY_TEXTS]
+        yield "columns", list(too_long(without_code(text)))
+        yield "texts of links", [f"'{it}'" for it in TEXT.findall(prose) if it.lower() in EMPTY_TEXTS]
         if not is_one_of(name, LONG_TABLES):
             yield "tables", list(too_wide(without_code(text)))
     if is_one_of(name, USERS):
