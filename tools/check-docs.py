@@ -62,8 +62,6 @@ USERS = ("README.md", "bench/README.md", "packaging/VERSIONS.md", "packaging/INS
          "docs/CHOOSING.md", "docs/SCRIPTS.md", "docs/TUTORIAL-C.md", "docs/ERRORS.md", "docs/HOW-IT-WORKS.md", "docs/PROVED.md", "docs/RUST-RULES.md",
          "docs/NETBSD.md", "docs/HOWTO-DRIVERS.md", "docs/HOWTO-RUST.md", "explorer/README.md")
 MOST_COLUMNS = 100
-# Pages whose tables are still to be worked over.
-LONG_TABLES = ("docs/GUARANTEES.md",)
 MOST_CELLS, MOST_WORDS = 5, 10
 CELLS = re.compile(r"(?<!\\)\|")
 # A line that nothing can break.
@@ -168,8 +166,7 @@ def checks_of(path, words):
         yield "names", sorted(it for it in strange if name != EARLIER[0] or not EARLIER[1].fullmatch(it.rpartition(" ")[2]))
         yield "columns", list(too_long(without_code(text)))
         yield "texts of links", [f"'{it}'" for it in TEXT.findall(prose) if it.lower() in EMPTY_TEXTS]
-        if not is_one_of(name, LONG_TABLES):
-            yield "tables", list(too_wide(without_code(text)))
+        yield "tables", list(too_wide(without_code(text)))
     if is_one_of(name, USERS):
         yield "phrases", list(awkward(text, PRIVATE))
 
