@@ -14,7 +14,7 @@
  * Results, references and entries are those of kupaldiz.h. An entry's number is unique in the table
  * and never reused; its slot is below twice the table's entries. Entries have the kind
  * KUPALDIZ_ENTRY. The calls test their arguments in the order of kupaldiz.h. The checking build
- * looks at none of them.
+ * doesn't know tables: what it says, and where, is of the calls beneath.
  */
 #ifndef KUPALDIZ_TABLE_H
 #define KUPALDIZ_TABLE_H
