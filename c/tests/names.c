@@ -164,7 +164,7 @@ static bool is_result(unsigned number)
 		if (number == none[i])
 			return false;
 	return number <= KUPALDIZ_NEEDS_DRIVER ||
-	    (number >= KUPALDIZ_OUTSIDE && number <= KUPALDIZ_NO_THREAD);
+	    (number >= KUPALDIZ_OUTSIDE && number <= KUPALDIZ_CROWDED);
 }
 
 /*
