@@ -10,7 +10,7 @@ from parts import ROOT
 
 FACTS = ROOT / "docs/facts"
 HEADER = "crates/registry_c/include/kupaldiz.h"
-RUN = "bench/runs/2026-11-30-face.txt"
+RUN = "bench/runs/2026-12-01-fast.txt"
 LIMITS = "crates/registry_c/include/kupaldiz_limits.h"
 WORDS = "zero one two three four five six seven eight nine ten eleven twelve".split()
 NUMBER = rf"(\d+\w*|{'|'.join(WORDS)})"
