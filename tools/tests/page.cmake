@@ -1,0 +1,28 @@
+# The headers, and the manual pages that are made of them. Nothing here needs the archive.
+set(GROUP page)
+set(NEEDED)
+test("the headers of the checking build and of the thread sanitizer are made of the calls" SETS_UP made LOCKS made RUNS tools/call-headers.py make)
+test("the pages are made of the headers" SETS_UP pages LOCKS made RUNS make pages)
+
+group(page)
+set(H -Icrates/registry_c/include)
+set(W ${H} -Ic/include)
+
+test("what is made of the calls for Rust" COUNTED tools/rust-calls.py check)
+test("the page: mandoc -T lint says nothing" NEEDS pages RUNS ${FUNCTIONS} page_lints)
+test("the page names the header's calls" NEEDS pages RUNS ${FUNCTIONS} names crates/registry_c/include/kupaldiz.h man/kupaldiz.3)
+test("the page of the waits names their calls" NEEDS pages RUNS ${FUNCTIONS} names c/include/kupaldiz_waiting.h man/kupaldiz_waiting.3)
+test("the page of the table names its calls" NEEDS pages RUNS ${FUNCTIONS} names c/include/kupaldiz_table.h man/kupaldiz_table.3)
+test("no line of the headers has more than 100 columns" NEEDS made RUNS ${FUNCTIONS} header_is_narrow)
+test("the header alone, in four C standards" RUNS ${FUNCTIONS} strict_alone kupaldiz.h ${H})
+test("that of the waits" RUNS ${FUNCTIONS} strict_alone kupaldiz_waiting.h ${W})
+test("that of the table" RUNS ${FUNCTIONS} strict_alone kupaldiz_table.h ${W})
+test("that of the table in the checking build" NEEDS made RUNS ${FUNCTIONS} strict_alone kupaldiz_table.h -DKUPALDIZ_CHECK ${W})
+test("that of the table with the thread sanitizer" NEEDS made RUNS ${FUNCTIONS} strict_alone kupaldiz_table.h -fsanitize=thread ${W})
+test("both in the checking build" NEEDS made RUNS ${FUNCTIONS} strict_alone kupaldiz_waiting.h -DKUPALDIZ_CHECK ${W})
+test("both with the thread sanitizer" NEEDS made RUNS ${FUNCTIONS} strict_alone kupaldiz_waiting.h -fsanitize=thread ${W})
+test("an answer that has to be looked at, and isn't, is warned of" RUNS ${FUNCTIONS} warned unused-result "(void)entry; kupaldiz_enter(cpu);")
+test("a reference that isn't looked at is warned of" RUNS ${FUNCTIONS} warned unused-result
+    "struct kupaldiz_passive held = {0}; kupaldiz_acquire(cpu, entry, &held);")
+test("a reference without a place is warned of" RUNS ${FUNCTIONS} warned nonnull "(void)!kupaldiz_acquire(cpu, entry, NULL);")
+test("a handle that is NULL is warned of" RUNS ${FUNCTIONS} warned nonnull "(void)cpu; (void)entry; kupaldiz_exit(NULL);")
