@@ -81,6 +81,13 @@ def check(edits, kept):
         return ran.stdout.rstrip()
 
 
+def is_of(goal, edit, paths):
+    """Whether a goal is in the body of the edit's function, or in the proofs of one of these."""
+    place, function = re.match(r"(\S+?):(\d+):", goal), function_of(edit)
+    is_in_body = function and function.path.as_posix().endswith(f"/{edit.crate}/{place[1]}") and function.first < int(place[2]) <= function.last + 1
+    return is_in_body or any(goal.startswith(f"proofs/{'/'.join(path.split('::')[1:])}/") for path in paths)
+
+
 def judged(edit, said, is_alone):
     """What refuses the edit, or '', and else what is wrong, by what a check said. Of an edit tried beside others its own function must fail, and not by what
     that calls."""
@@ -91,9 +98,8 @@ def judged(edit, said, is_alone):
     failed = {path: state for path, state in own.items() if state != "proved" and not state.startswith(CALLS)}
     if not failed:
         return "", f"NOT REFUSED: {', '.join(own) or 'the whole crate'} still proved"
-    homes = tuple(f"proofs/{'/'.join(path.split('::')[1:])}/" for path in failed)
-    found = [state for state in failed.values() if state.startswith("no proof")]
-    found += [goal for goal in GOAL.findall(said) if is_alone or goal.startswith(homes)]
+    found = [goal for goal in GOAL.findall(said) if is_alone or is_of(goal, edit, failed)]
+    found += [state for state in failed.values() if state.startswith("no proof")]
     return (found[0][:200], "") if found else ("", "NOT TRIED: it is refused only because a proof names what it took away")
 
 

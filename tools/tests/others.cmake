@@ -1,5 +1,5 @@
-# Documents; what is made of the proved program and of both engines; the crates, compiled and run
-# unproved; and the tools that judge others.
+# Documents; the proved program, and both engines; the crates, compiled and run unproved; and the tools
+# that judge others.
 set(NEEDED)
 set(GROUP documents)
 test("layout and edits" COUNTED tools/check-forms.py)
@@ -8,6 +8,7 @@ test("limits" COUNTED tools/limits.py check)
 test("imports" COUNTED tools/check-imports.py)
 test("table of the events" COUNTED tools/event-table.py check)
 test("pages of the headers" COUNTED tools/header-pages.py check)
+test("pictures" COUNTED tools/draw.py check)
 
 set(GROUP tools)
 test("the tools themselves" PROCESSORS 2 COUNTED tools/test-tools.py)
@@ -19,15 +20,13 @@ test("tutorial" NEEDS built COUNTED tools/test-tutorial.py)
 set(GROUP program)
 test("program" COUNTED tools/test-program.py)
 test("examples" COUNTED tools/run-examples.py --program crates/registry_run/out/registry_run)
-test("pictures" COUNTED tools/draw.py check)
-test("conformance kit" NEEDS built rust-examples COUNTED tools/conformance.py test out/script out/rust/release/examples/script)
+test("conformance kit" PROCESSORS 2 NEEDS built rust-examples COUNTED tools/conformance.py test out/script out/rust/release/examples/script)
 
 # Compiled by `rt try` and run, which stops at an index out of bounds, an overflow or a failed unwrap.
 set(GROUP unproved)
 test("scripts of the documents" COUNTED tools/run-examples.py --try)
 test("worked rows" COUNTED tools/test-program.py --try)
 test("conformance kit, unproved" COUNTED tools/conformance.py test)
-test("pictures, unproved" COUNTED tools/draw.py check)
 execute_process(COMMAND tools/try-crate.py list WORKING_DIRECTORY ${TOP} OUTPUT_VARIABLE lines COMMAND_ERROR_IS_FATAL ANY)
 string(REGEX MATCHALL "[^\n]+" lines "${lines}")
 foreach(line ${lines})

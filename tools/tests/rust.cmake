@@ -1,4 +1,5 @@
 # The crate in Rust over the archive, and the same watched by valgrind and by the compiler's sanitizers.
+set(COST 100)
 group(rust)
 list(APPEND NEEDED archive)
 find_program(CLIPPY cargo-clippy)
@@ -74,3 +75,4 @@ if(lacks EQUAL 0)
 else()
     message(STATUS "skipped Rust: tests with sanitizers")
 endif()
+set(COST 0)
