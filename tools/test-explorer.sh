@@ -36,7 +36,7 @@ drivers_as_told() {
 }
 
 run_example() {
-    gcc -c -g -fsanitize=thread -fmacro-prefix-map="$room/=" -DKUPALDIZ_EXPLORER -I$folder -Inetbsd/include \
+    gcc -c -g -fsanitize=thread -fmacro-prefix-map="$room/=" -DKUPALDIZ_EXPLORER -I$folder -Iout/made/netbsd \
         -o "$room/test.o" "$room/test.c" &&
         gcc -o "$room/a.out" "$room/test.o" "$out/plain/libexplorer.a" -pthread && (cd "$room" && ./a.out)
 }
@@ -89,7 +89,7 @@ static void go(void *arg) { (void)arg; explorer_point(); }
 static void begin(void) { explorer_thread("one", go, NULL); }
 int main(void) { return explorer_run(begin, NULL); }
 C
-    { gcc "$@" -Inetbsd/include -I$folder -o "$room/plain" "$room/plain.c" "$out/plain/libexplorer.a" -pthread &&
+    { gcc "$@" -Iout/made/netbsd -I$folder -o "$room/plain" "$room/plain.c" "$out/plain/libexplorer.a" -pthread &&
         "$room/plain"; } 2>&1
 }
 
@@ -112,7 +112,7 @@ traced() {
 
 has_packages explorer || finish
 netbsd/named.sh
-check "explorer.h alone, in four C standards" header_alone explorer.h -DKUPALDIZ_EXPLORER -Inetbsd/include -Iexplorer
+check "explorer.h alone, in four C standards" header_alone explorer.h -DKUPALDIZ_EXPLORER -Iout/made/netbsd -Iexplorer
 counted "each call has a point, or a reason for none" $folder/tests/told.py points
 for way in plain sanitized; do
     check "the explorer and its tests are built, no warning: $way" make -s -C $folder $way

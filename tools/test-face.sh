@@ -11,7 +11,7 @@
 . "$(dirname "$0")/checks.sh"
 out=out
 header=crates/registry_c/include/kupaldiz.h
-page=man/kupaldiz.3
+pages=out/made/man
 # On a busy machine a panic that a test wants takes many seconds to print where it was.
 export RUST_BACKTRACE=0
 warnings=(-Wall -Wextra -Werror -Wpedantic -Wconversion -Wcast-qual -Wwrite-strings)
@@ -22,12 +22,12 @@ names() {
 }
 
 page_lints() {
-    mandoc -T lint man/*.[137] >"$log" 2>&1 && [ ! -s "$log" ]
+    mandoc -T lint man/*.[17] "$pages"/*.3 >"$log" 2>&1 && [ ! -s "$log" ]
 }
 
 # A header fits a window beside another one.
 header_is_narrow() {
-    ! expand "$header" c/include/*.h* | grep -nE '.{101}'
+    ! expand "$header" c/include/*.h* out/made/c/kupaldiz_*.h | grep -nE '.{101}'
 }
 
 # Its proofs may take longer than a program may run.
@@ -112,17 +112,17 @@ test_page() {
     check "the headers of the checking build and of the thread sanitizer are made of the calls" tools/call-headers.py make
     check "what is made of the calls for Rust" tools/rust-calls.py check
     check "the page: mandoc -T lint says nothing" page_lints
-    check "the page names the header's calls" names "$header" "$page"
-    check "the page of the waits names their calls" names c/include/kupaldiz_waiting.h man/kupaldiz_waiting.3
-    check "the page of the table names its calls" names c/include/kupaldiz_table.h man/kupaldiz_table.3
+    check "the page names the header's calls" names "$header" "$pages/kupaldiz.3"
+    check "the page of the waits names their calls" names c/include/kupaldiz_waiting.h "$pages/kupaldiz_waiting.3"
+    check "the page of the table names its calls" names c/include/kupaldiz_table.h "$pages/kupaldiz_table.3"
     check "no line of the headers has more than 100 columns" header_is_narrow
     check "the header alone, in four C standards" header_alone kupaldiz.h "${warnings[@]}" -Icrates/registry_c/include
     check "that of the waits" header_alone kupaldiz_waiting.h "${warnings[@]}" -Icrates/registry_c/include -Ic/include
     check "that of the table" header_alone kupaldiz_table.h "${warnings[@]}" -Icrates/registry_c/include -Ic/include
-    check "that of the table in the checking build" header_alone kupaldiz_table.h "${warnings[@]}" -DKUPALDIZ_CHECK -Icrates/registry_c/include -Ic/include
-    check "that of the table with the thread sanitizer" header_alone kupaldiz_table.h "${warnings[@]}" -fsanitize=thread -Icrates/registry_c/include -Ic/include
-    check "both in the checking build" header_alone kupaldiz_waiting.h "${warnings[@]}" -DKUPALDIZ_CHECK -Icrates/registry_c/include -Ic/include
-    check "both with the thread sanitizer" header_alone kupaldiz_waiting.h "${warnings[@]}" -fsanitize=thread -Icrates/registry_c/include -Ic/include
+    check "that of the table in the checking build" header_alone kupaldiz_table.h "${warnings[@]}" -DKUPALDIZ_CHECK -Icrates/registry_c/include -Ic/include -Iout/made/c
+    check "that of the table with the thread sanitizer" header_alone kupaldiz_table.h "${warnings[@]}" -fsanitize=thread -Icrates/registry_c/include -Ic/include -Iout/made/c
+    check "both in the checking build" header_alone kupaldiz_waiting.h "${warnings[@]}" -DKUPALDIZ_CHECK -Icrates/registry_c/include -Ic/include -Iout/made/c
+    check "both with the thread sanitizer" header_alone kupaldiz_waiting.h "${warnings[@]}" -fsanitize=thread -Icrates/registry_c/include -Ic/include -Iout/made/c
     check "an answer that has to be looked at, and isn't, is warned of" warned unused-result '(void)entry; kupaldiz_enter(cpu);'
     check "a reference that isn't looked at is warned of" warned unused-result 'struct kupaldiz_passive held = {0}; kupaldiz_acquire(cpu, entry, &held);'
     check "a reference without a place is warned of" warned nonnull '(void)!kupaldiz_acquire(cpu, entry, NULL);'

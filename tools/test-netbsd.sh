@@ -25,8 +25,8 @@ with_clang() {
 
 has_packages netbsd || finish
 $folder/named.sh
-for header in $(cd $folder/include && ls kupaldiz/*.h sys/*.h net/*.h); do
-    check "$header alone, in four C standards" header_alone "$header" -I$folder/include
+for header in $(cd out/made/netbsd && ls kupaldiz/*.h sys/*.h net/*.h); do
+    check "$header alone, in four C standards" header_alone "$header" -Iout/made/netbsd
 done
 counted "each line of the layer is in a test" netbsd/tests/lines.py
 counted "each name that a driver may use, for the layer and for the explorer" netbsd/tests/names.py gcc

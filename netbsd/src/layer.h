@@ -34,16 +34,16 @@
 #include <time.h>
 #include <unistd.h>
 
-#include "../include/kupaldiz/cpu.h"
-#include "../include/kupaldiz/kernel.h"
-#include "../include/kupaldiz/localcount.h"
-#include "../include/kupaldiz/locks.h"
-#include "../include/kupaldiz/memory.h"
-#include "../include/kupaldiz/module_hook.h"
-#include "../include/kupaldiz/pserialize.h"
-#include "../include/kupaldiz/psref.h"
-#include "../include/kupaldiz/softint.h"
-#include "../include/kupaldiz/workqueue.h"
+#include <kupaldiz/cpu.h>
+#include <kupaldiz/kernel.h>
+#include <kupaldiz/localcount.h>
+#include <kupaldiz/locks.h>
+#include <kupaldiz/memory.h>
+#include <kupaldiz/module_hook.h>
+#include <kupaldiz/pserialize.h>
+#include <kupaldiz/psref.h>
+#include <kupaldiz/softint.h>
+#include <kupaldiz/workqueue.h>
 
 /* How many milliseconds a wait lasts before it says what it waits for. */
 #ifndef KUPALDIZ_PATIENCE

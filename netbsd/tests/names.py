@@ -14,7 +14,7 @@ from pathlib import Path
 HERE = Path(__file__).resolve().parent
 LAYER = HERE.parent
 TESTED = [*HERE.rglob("*.c"), *(LAYER / "examples").glob("*.c"), *(LAYER.parent / "explorer/tests").glob("*.[c]*")]
-WORDS = ["-std=gnu17", "-Wall", "-Wextra", "-Werror", "-Wno-unused-variable", "-fsyntax-only", "-xc", "-", f"-I{LAYER}/include"]
+WORDS = ["-std=gnu17", "-Wall", "-Wextra", "-Werror", "-Wno-unused-variable", "-fsyntax-only", "-xc", "-", f"-I{LAYER.parent}/out/made/netbsd"]
 
 
 def rows():
