@@ -11,7 +11,7 @@ use crate::references::LocalRef;
 use crate::retired::Retired;
 use crate::seats::Seats;
 use crate::settings::Settings;
-use crate::shared::Shared;
+use crate::shared::{Closing, Shared};
 use crate::values::{Balance, Entry, Freed};
 use crate::Key;
 use std::fmt;
@@ -223,7 +223,7 @@ impl<T> Registry<T> {
         }
         cpus[0].release_dropped();
         let own = self.seats.own();
-        cpus.extend(own.iter().filter_map(|seated| seated.cpu.as_deref()));
+        cpus.extend(own.iter().filter_map(|seated| seated.as_ref()));
         // With many slots it is too long for a stack.
         let mut list = vec![ffi::Balance::EMPTY; usize::from(self.settings().slots)];
         let length = self.audit_into(&cpus, &mut list);
@@ -378,55 +378,45 @@ impl<T> Registry<T> {
         self,
         patience: impl Into<Patience>,
     ) -> Result<(), Refused<CloseError, Registry<T>>> {
-        let (mut seats, mut pauses) = (self.seats, Pauses::new(patience.into()));
-        if seats.shared.end.closing.is_awaited.swap(true, Ordering::SeqCst) {
-            return Registry::close_beside(seats, pauses);
+        let mut pauses = Pauses::new(patience.into());
+        let closing = Arc::clone(&self.shared().end.closing);
+        if closing.is_awaited.swap(true, Ordering::SeqCst) {
+            return self.close_beside(&closing, pauses);
         }
-        loop {
-            seats = match Registry::unshared(seats) {
-                Ok(_) => return Ok(()),
-                Err(seats) => seats,
-            };
-            if !pauses.another() {
-                seats.shared.end.closing.is_awaited.store(false, Ordering::SeqCst);
-                return Err(still_open(Registry { seats }));
-            }
-        }
+        self.alone(&mut pauses).map(drop).map_err(|given| {
+            closing.is_awaited.store(false, Ordering::SeqCst);
+            Refused { refusal: CloseError::StillOpen, given }
+        })
     }
 
-    /// The registry itself, if this is its only handle.
-    fn unshared(seats: Arc<Seats<T>>) -> Result<Shared<T>, Arc<Seats<T>>> {
-        let last = Arc::try_unwrap(Arc::try_unwrap(seats)?.into_shared());
-        last.map_err(|shared| Registry::of(shared).seats)
-    }
-
-    /// The same, once this is its only handle, as long as the patience lasts. No close of another
-    /// handle is waited for.
-    pub(crate) fn alone(self, pauses: &mut Pauses) -> Result<Shared<T>, Registry<T>> {
-        let mut seats = self.seats;
+    /// What all handles share, once this is the only one, as long as the patience lasts. No close
+    /// of another handle is waited for.
+    pub(crate) fn alone(mut self, pauses: &mut Pauses) -> Result<Shared<T>, Registry<T>> {
         loop {
-            seats = match Registry::unshared(seats) {
-                Ok(shared) => return Ok(shared),
-                Err(seats) => seats,
+            self = match Arc::try_unwrap(self.seats).map(|last| Arc::try_unwrap(last.into_shared()))
+            {
+                Ok(Ok(shared)) => return Ok(shared),
+                Ok(Err(shared)) => Registry::of(shared),
+                Err(seats) => Registry { seats },
             };
             if !pauses.another() {
-                return Err(Registry { seats });
+                return Err(self);
             }
         }
     }
 
     /// Waits beside another close, which would wait for this handle: so it is none meanwhile.
     fn close_beside(
-        seats: Arc<Seats<T>>,
+        self,
+        closing: &Closing,
         mut pauses: Pauses,
     ) -> Result<(), Refused<CloseError, Registry<T>>> {
-        let closing = Arc::clone(&seats.shared.end.closing);
-        let open = Arc::downgrade(&seats.shared);
-        drop(seats);
+        let open = Arc::downgrade(self.shared());
+        drop(self);
         while !closing.is_closed.load(Ordering::SeqCst) {
             if !pauses.another() {
-                if let Some(registry) = open.upgrade().map(Registry::of) {
-                    return Err(still_open(registry));
+                if let Some(given) = open.upgrade().map(Registry::of) {
+                    return Err(Refused { refusal: CloseError::StillOpen, given });
                 }
                 // It is being closed.
                 pauses = Pauses::new(Patience::Forever);
@@ -449,10 +439,6 @@ impl<T> fmt::Debug for Drained<T> {
     fn fmt(&self, f: &mut fmt::Formatter<'_>) -> fmt::Result {
         f.debug_struct("Drained").field("freed", &self.freed).field("held", &self.held).finish()
     }
-}
-
-fn still_open<T>(given: Registry<T>) -> Refused<CloseError, Registry<T>> {
-    Refused { refusal: CloseError::StillOpen, given }
 }
 
 impl<T> Clone for Registry<T> {
