@@ -7,9 +7,8 @@ use crate::values::Holder;
 use std::error::Error;
 use std::fmt;
 
-/// Any error of a call. Each kind of call returns an error of its own, such as [`LookUpError`]: `?`
-/// converts it to this one. A call that fails has changed nothing, unless it says so. Each call
-/// lists its errors in the order in which it tests them.
+/// Any error of a call. Each kind of call returns an error of its own, such as [`LookUpError`],
+/// which `?` converts to this one.
 #[derive(Clone, Copy, Debug, PartialEq, Eq, Hash)]
 #[non_exhaustive]
 pub enum RegistryError {
@@ -383,13 +382,10 @@ pub(crate) fn text(answer: u32) -> &'static str {
 
 /// The error of a call that takes a value, together with that value, unchanged: what an attach was
 /// given, the [`Retired`](crate::Retired) of a destroy, or the registry of a close. It will have no
-/// other field, so a caller may take it apart. The text of a destroy's error names the first
-/// obstacle, and in a registry that was opened by
-/// [`Registry::open_tracked`](crate::Registry::open_tracked) each line that holds the entry.
+/// other field, so a caller may take it apart.
 ///
-/// In a function that returns a [`RegistryError`], `?` converts it, and drops what was given. If
-/// the error must be `Send` and `'static`, such as a boxed error, `RegistryError::from` converts it
-/// first.
+/// `?` converts it to a [`RegistryError`], and drops what was given. Where the error must be `Send`
+/// and `'static`, as a boxed one, `RegistryError::from` converts it first.
 ///
 /// ```
 /// use kupaldiz::{AttachError, Refused, Registry, Settings};

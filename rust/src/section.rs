@@ -133,7 +133,7 @@ impl<T> fmt::Debug for Section<'_, T> {
 }
 
 /// An entry that was found in a section, for as long as the section is open. It derefs to what the
-/// entry carries. To use the entry longer, acquire a reference. All functions are called by the
+/// entry carries. To use the entry longer, acquire a reference. Its functions are called by the
 /// type's name, so that none hides a method of `T`.
 pub struct Found<'section, 'cpu, T> {
     record: Record<T>,
@@ -284,9 +284,8 @@ type LookUp = unsafe extern "C" fn(*mut ffi::Cpu, u32, *const ffi::Name, *mut ff
 /// Lookups. Each takes what a [`Key`] is made of, such as a [`Name`](crate::Name).
 impl<T> Cpu<T> {
     /// Enters a section, or nests one more in the open section: `pserialize_read_enter`. It is open
-    /// until the guard is dropped. A section whose guard was forgotten stays open until the CPU
-    /// [leaves](Cpu::leave), is dropped or goes back to its pool. An enter before that is nested in
-    /// it.
+    /// until the guard is dropped; or, if that is [forgotten](crate#what-is-forgotten), until the
+    /// CPU [leaves](Cpu::leave).
     ///
     /// # Errors
     ///
@@ -371,8 +370,7 @@ impl<T> Cpu<T> {
         got
     }
 
-    /// The live entry of this name, and the section in which it was found: what
-    /// [`enter`](Cpu::enter) and [`find`](Section::find) give together.
+    /// The live entry of this name, and the section in which it was found.
     ///
     /// # Errors
     ///
@@ -402,8 +400,8 @@ impl<T> Cpu<T> {
     }
 
     /// The record of the live entry of this name, at one moment during the call. Nothing holds the
-    /// entry afterwards, so what it carries isn't returned. The call opens no section and writes no
-    /// shared word, if the CPU remembers the entry, or that there is none.
+    /// entry afterwards, so what it carries isn't returned. If the CPU remembers the entry, or that
+    /// there is none, the call opens no section and writes no shared word.
     ///
     /// # Errors
     ///
@@ -461,8 +459,7 @@ impl<T> Cpu<T> {
 }
 
 /// An entry together with the section in which it was found: [`Cpu::read`] returns it. It derefs to
-/// what the entry carries, and dropping it exits. It stays with its thread. All functions are
-/// called by the type's name, so that none hides a method of `T`.
+/// what the entry carries, and dropping it exits. It stays with its thread.
 #[must_use = "a section that is dropped at once protects nothing"]
 pub struct ReadGuard<'cpu, T> {
     /// It is lent no longer than the guard lives, which has its section.

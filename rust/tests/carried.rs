@@ -112,18 +112,18 @@ const ENDS: [(&str, End); 8] = [
         drop(held);
         drop((registry, cpus));
     }),
-    ("a drain", |(_registry, cpus), _| {
-        let drained = cpus[0].drain(patience()).unwrap();
+    ("a drain", |(registry, _cpus), _| {
+        let drained = registry.drain(patience()).unwrap();
         assert_eq!(
             drained.freed.iter().map(|freed| freed.value.role).collect::<Vec<_>>(),
             [Role::Object, Role::Library]
         );
     }),
-    ("a drain with a deferred object", |(_registry, cpus), _| {
+    ("a drain with a deferred object", |(registry, cpus), _| {
         let held = cpus[0].get_local((Kind::Iface, "gz0")).ok();
         cpus[0].detach((Kind::Iface, "gz0")).unwrap().defer();
         drop(held);
-        assert_eq!(cpus[0].drain(patience()).unwrap().freed.len(), 2);
+        assert_eq!(registry.drain(patience()).unwrap().freed.len(), 2);
     }),
     ("tokens", |plug, make| {
         let (object, library) = tokens(&plug, &make);

@@ -45,7 +45,7 @@ pub const LONG: Duration = Duration::from_secs(20);
 
 /// A patience that ends, so that a test fails where it would wait for ever.
 pub fn patience() -> kupaldiz::Patience {
-    kupaldiz::Patience::at_most(LONG)
+    kupaldiz::Patience::from(LONG)
 }
 
 /// So many steps, or KUPALDIZ_CHANGES of each hundred: few where a tool watches each access.
