@@ -88,13 +88,6 @@ impl Name {
 
     /// The name of a number: a letter for its four highest bits, and twelve digits to the base 32.
     /// Names order as their numbers do. [`id`](Name::id) is the way back.
-    ///
-    /// ```
-    /// use kupaldiz::Name;
-    ///
-    /// const SESSION: Name = Name::from_id(1_000);
-    /// assert_eq!((SESSION.as_str(), SESSION.id()), (Some("a0000000000v8"), Some(1_000)));
-    /// ```
     #[must_use]
     pub const fn from_id(id: u64) -> Name {
         let (mut bytes, mut place) = ([0; ROOM], 1);

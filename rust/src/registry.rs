@@ -74,7 +74,7 @@ impl<T> Registry<T> {
     ///
     /// # Errors
     ///
-    /// `OtherVersion`, `OtherLimits`, `BadSettings`, `NoMemory`.
+    /// `OtherLimits`, `BadSettings`, `NoMemory`.
     pub fn open(settings: Settings) -> Result<Registry<T>, OpenError> {
         Ok(Registry::of(Arc::new(Shared::open(settings, false)?)))
     }

@@ -313,18 +313,6 @@ impl<T> Cpu<T> {
     }
 
     /// The same reference, which co-owns its CPU, or the same error: a struct may own both.
-    ///
-    /// ```
-    /// use kupaldiz::{Registry, Settings};
-    /// use std::rc::Rc;
-    ///
-    /// let registry = Registry::open(Settings::new(1, 1)).unwrap();
-    /// registry.attach("wm", 7).unwrap();
-    /// let cpu = Rc::new(registry.any_cpu().unwrap());
-    /// let driver = cpu.get_rc("wm").unwrap();
-    /// drop(cpu);
-    /// assert_eq!(*driver, 7);
-    /// ```
     #[inline]
     #[track_caller]
     pub fn get_rc(self: &Rc<Self>, key: impl Into<Key>) -> Result<PassiveRc<T>, LookUpError> {

@@ -84,7 +84,6 @@ fn refusals_say_why() {
         R::TooDeep,
         R::NeedsDriver,
         R::OtherRegistry,
-        R::OtherVersion,
         R::OtherLimits,
         R::StillOpen,
     ];
