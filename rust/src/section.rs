@@ -64,10 +64,6 @@ impl<'cpu, T> Section<'cpu, T> {
     /// let section = cpu.enter().unwrap();
     /// let names: Vec<_> = section.entries().map(|found| Found::entry(&found).name).collect();
     /// assert_eq!(names, ["ixl", "bge", "wm"]);
-    /// let fast = section.entries().find(|found| **found > 10_000).unwrap();
-    /// let fast = Found::acquire(&fast).unwrap();
-    /// section.exit();
-    /// assert_eq!(*fast, 40_000);
     /// ```
     #[inline]
     pub fn entries(&self) -> Entries<'_, 'cpu, T> {
