@@ -431,9 +431,7 @@ impl<T> Drop for Shared<T> {
             (mem::take(&mut kept.rows), Vec::new(), Vec::new());
         rows.sort_unstable_by_key(|row| Reverse(row.number));
         for row in rows {
-            if kept_drivers.contains(&row.number)
-                || spare.iter_mut().any(|cpu| cpu.holds(row.number))
-            {
+            if kept_drivers.contains(&row.number) || spare.iter().any(|cpu| cpu.holds(row.number)) {
                 kept_drivers.extend(row.driver);
             } else {
                 left.push(row.carried);

@@ -201,20 +201,10 @@ fn a_call_finds_a_cpu_while_handles_come_and_go() {
 }
 
 #[test]
-fn a_future_that_is_dropped_or_done_leaves_nothing_behind() {
+fn a_future_that_is_done_has_no_entry() {
     let (registry, cpus) = with_wm();
-    let reference = local(&cpus[0], "wm");
-    let mut retired = cpus[2].detach(WM).unwrap();
-    let task = Task::here();
-    assert!(task.poll(&mut retired).is_pending());
-    drop(retired);
-    assert_eq!(registry.deferred(), 1);
-    drop(reference);
-    assert_eq!(registry.free_deferred()[0].value, 7);
-
-    cpus[2].attach(WM, 8).unwrap();
-    let mut retired = cpus[2].detach(WM).unwrap();
-    assert_eq!(task.poll(&mut retired), Poll::Ready(8));
+    let (mut retired, task) = (cpus[2].detach(WM).unwrap(), Task::here());
+    assert_eq!(task.poll(&mut retired), Poll::Ready(7));
     assert!(!format!("{retired:?}").contains("entry"));
     assert!(catch_unwind(AssertUnwindSafe(|| retired.entry())).is_err());
     assert!(catch_unwind(AssertUnwindSafe(|| task.poll(&mut retired))).is_err());
