@@ -3,8 +3,8 @@
 
 mod common;
 
-use common::{detach, local, name, opened, passive, patience, with_driver, Drops, Tracked, LONG};
-use kupaldiz::{Cpu, Holder, Kind, Patience, Registry, Retired, Settings};
+use common::*;
+use kupaldiz::*;
 use std::cell::{Cell, RefCell};
 use std::mem;
 use std::panic::{catch_unwind, AssertUnwindSafe};
@@ -100,7 +100,7 @@ type End = fn(Plug, Box<dyn Fn(Role) -> Part>);
 fn tokens((_registry, cpus): &Plug, make: &dyn Fn(Role) -> Part) -> (Retired<Part>, Retired<Part>) {
     let object = cpus[0].detach((Kind::Iface, "gz0")).unwrap();
     let library = cpus[0].detach("gz").unwrap();
-    let _ = cpus[0].attach("other", make(Role::Other)).map_err(common::why);
+    let _ = cpus[0].attach("other", make(Role::Other)).map_err(why);
     (object, library)
 }
 
@@ -128,7 +128,7 @@ const ENDS: [(&str, End); 8] = [
     ("tokens", |plug, make| {
         let (object, library) = tokens(&plug, &make);
         let library = library.try_destroy().map(drop).unwrap_err();
-        assert_eq!(library.refusal, kupaldiz::DestroyError::StillHeld(Holder::Local(1)));
+        assert_eq!(library.refusal, DestroyError::StillHeld(Holder::Local(1)));
         drop(object);
         assert_eq!(library.given.try_destroy().unwrap().value.role, Role::Library);
     }),

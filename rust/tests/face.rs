@@ -3,13 +3,8 @@
 
 mod common;
 
-use common::LONG;
-use common::{detach, local, name, opened, opened_tracked, passive, patience, why, with_driver};
-use kupaldiz::{
-    AttachError, Cpu, CpuPool, DetachError, Found, Freed, Hold, Holder, LocalRef, LookUpError,
-    Mapped, Name, NameError, PassiveRc, PassiveRef, Patience, ReadGuard, Registry, RegistryError,
-    Retired, Settings, LIMITS,
-};
+use common::*;
+use kupaldiz::*;
 use std::collections::hash_map::DefaultHasher;
 use std::collections::{BTreeSet, HashSet};
 use std::error::Error;

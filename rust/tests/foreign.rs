@@ -3,11 +3,8 @@
 
 mod common;
 
-use common::{every_call, local, name, opened, passive, poll, waker, Drops, Task, Tracked, LONG};
-use kupaldiz::{
-    Cpu, CpuPool, DestroyError, Holder, Key, Kind, LocalRef, PassiveRc, PassiveRef, Patience,
-    ReadGuard, Registry, Retired, Settings,
-};
+use common::*;
+use kupaldiz::*;
 use std::cell::RefCell;
 use std::fmt::{self, Write};
 use std::mem;
@@ -235,7 +232,7 @@ thread_local! {
 /// The very CPU whose call woke it.
 #[test]
 fn a_waker_may_use_the_cpu_that_woke_it() {
-    let (registry, mut cpus) = common::with_driver(7);
+    let (registry, mut cpus) = with_driver(7);
     let cpu = Rc::new(cpus.remove(0));
     OWN.with(|own| *own.borrow_mut() = Some(Rc::clone(&cpu)));
     let (held, section) = (cpu.get_rc("wm").unwrap(), cpu.enter().unwrap());
@@ -677,7 +674,7 @@ fn a_loan_that_goes_back_wakes_no_task_of_what_was_forgotten_on_it() {
 /// It gives no CPU back.
 #[test]
 fn a_close_that_waits_wakes_nobody() {
-    let (registry, cpus) = common::with_driver(7);
+    let (registry, cpus) = with_driver(7);
     let (_held, task) = (local(&cpus[1], "wm"), Task::here());
     let mut wm = cpus[0].detach("wm").unwrap();
     assert!(task.poll(&mut wm).is_pending() && registry.close(Patience::Turns(9)).is_err());

@@ -8,11 +8,8 @@
 
 mod common;
 
-use common::{name, scaled, why, Dice, Drops, Task, Tracked};
-use kupaldiz::{
-    Cpu, Entry, Found, Freed, Hold, Holder, Kind, LocalRef, Name, PassiveRef, Patience, ReadGuard,
-    Refused, Registry, RegistryError, Retired, Section, Settings,
-};
+use common::*;
+use kupaldiz::*;
 use std::cmp::Reverse;
 use std::collections::{BTreeSet, HashMap};
 use std::mem;
@@ -768,7 +765,7 @@ fn run(seed: u64, steps: usize) {
         labels: 0,
         drivers: Vec::new(),
     };
-    drop(common::dropped_here());
+    drop(dropped_here());
     (0..steps).for_each(|_| bench.step());
     let drivers = mem::take(&mut bench.drivers);
     drop(bench);
@@ -776,7 +773,7 @@ fn run(seed: u64, steps: usize) {
     drop(cpus);
     registry.close(Patience::Turns(1)).unwrap();
     assert_eq!(drops.made(), drops.dropped());
-    let order: HashMap<u64, usize> = common::dropped_here().into_iter().zip(0..).collect();
+    let order: HashMap<u64, usize> = dropped_here().into_iter().zip(0..).collect();
     assert!(
         drivers.iter().all(|(iface, driver)| order[iface] < order[driver]),
         "a driver's value went before its interface's"
