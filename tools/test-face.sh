@@ -218,6 +218,7 @@ test_rust() {
     cd rust || return
     if cargo clippy --version >/dev/null 2>&1; then
         check "Rust: no warning, and clippy says nothing" cargo clippy --offline --all-targets -- -D warnings
+        check "Rust: nor of the bench's programs" cargo clippy --offline --manifest-path ../bench/rust/Cargo.toml -- -D warnings
     else
         check "Rust: no warning" env RUSTFLAGS="-D warnings" cargo check --offline --all-targets
     fi
@@ -235,13 +236,15 @@ test_rust() {
     counted "Rust: the docs' examples" cargo test --offline --doc
     check "Rust: the examples are built" cargo build --offline --release --examples
     cd .. || return
+    check "Rust: the bench's programs are built" cargo build --offline --release --manifest-path bench/rust/Cargo.toml
     for example in "${rust_examples[@]}"; do
         check "Rust: ${example%%:*}" says_last "${example#*: }" "$examples/${example%%:*}"
     done
     check "Rust: compiled for other limits, nothing is opened" refuses_other_limits
     check "Rust: over an archive of another version, nothing is compiled" refuses_other_version
     check "Rust: who_holds says what the README shows" who_holds_says "$examples/who_holds"
-    programs Rust: "" "$examples/" smallest 'speed 2 8 1000' 'changes 20' 'drops 2000'
+    programs Rust: "" "$examples/" smallest
+    programs Rust: "" "$CARGO_TARGET_DIR/release/" 'speed 2 8 1000' 'changes 20' 'drops 2000'
     check "Rust: the stress where a yield does nothing" ends_without_yields
 }
 
