@@ -190,8 +190,10 @@ void find_races_of_fault(void)
 {
 	if (search->mode != REDUCED)
 		return;
-	if (run.step > search->fresh && !search->stuck)
+	if (run.step > search->fresh && !search->stuck) {
 		search->steps[run.step - 1].set.full = true;
+		add_all_backtrack_points(run.step - 1);
+	}
 	find_races(run.step - 1, run.step - 1);
 	find_races_of_all_disabled(run.step);
 }

@@ -512,8 +512,9 @@ static const struct written {
     {{-1, {acquire_local}}, {-1, {release_any}}, {-1, {acquire_local, release_any}}},
     /* A call gives back memory inside. */
     {{-1, {load_object}}, {-1, {destroy_cache}}},
-    /* Two threads that touch nothing: neither one's fault hides the other's. */
+    /* Threads that touch nothing: no fault hides another one, also of a thread that has to wait first. */
     {{-1, {fail}}, {-1, {fail}}},
+    {{-1, {pause_once, fail}}, {-1, {fail}}},
 };
 
 static const struct thing *thing_with(void (*body)(unsigned thread), const struct thing *from, size_t all)
