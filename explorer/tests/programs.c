@@ -336,6 +336,7 @@ static unsigned *object;
 static void load_object(unsigned thread) { observe(thread, atomic_load_relaxed(object)); }
 static void destroy_cache(unsigned thread) { (void)thread; pool_cache_destroy(cache); }
 static void fail(unsigned thread) { explorer_point(); panic("thread %u", thread); }
+static void lock_and_fail(unsigned thread) { lock_and_load(thread); panic("thread %u", thread); }
 
 /* ---- The list of all, and what each needs. ---- */
 
@@ -380,7 +381,8 @@ static const struct thing things_to_do[] = {
 static const struct thing only_written[] = {
     {"count in, unless gone", count_in_unless_gone, 5, COUNT}, {"tear down by perform", tear_down_by_perform, 7, COUNT},
     {"tear down by barrier", tear_down_by_barrier, 14, COUNT}, {"acquire", acquire_local, 1, COUNT}, {"release any", release_any, 1, COUNT},
-    {"load object", load_object, 1, OBJECT}, {"destroy cache", destroy_cache, 2, OBJECT}, {"fail", fail, 1, 0}};
+    {"load object", load_object, 1, OBJECT}, {"destroy cache", destroy_cache, 2, OBJECT}, {"fail", fail, 1, 0},
+    {"lock, fail", lock_and_fail, 3, LOCKS}};
 
 struct text {
 	int cpu;	/* below 0: the thread isn't bound */
@@ -515,6 +517,7 @@ static const struct written {
     /* Threads that touch nothing: no fault hides another one, also of a thread that has to wait first. */
     {{-1, {fail}}, {-1, {fail}}},
     {{-1, {pause_once, fail}}, {-1, {fail}}},
+    {{-1, {lock_and_fail}}, {-1, {lock_and_load, fail}}},
 };
 
 static const struct thing *thing_with(void (*body)(unsigned thread), const struct thing *from, size_t all)
