@@ -48,7 +48,7 @@ RULES = [
     Rule("schedule", "a conflict wakes what sleeps", "if (are_dependent(set, &before->set))", "if (false && are_dependent(set, &before->set))"),
     Rule("schedule", "threads that are disabled at the end race", "	find_races_of_all_disabled(run.finish + 1, enabled_now());", "	;"),
     Rule("schedule", "threads that are disabled at a cut race", "			find_races_of_all_disabled(run.step, enabled);", "			;"),
-    Rule("schedule", "the clock that is disabled races", "if (!clock_may_jump() && run.ticks < options.ticks)", "if (false)"),
+    Rule("schedule", "the clock that is disabled races", "if ((enabled & bit(CLOCK)) == 0 && run.ticks < options.ticks)", "if (false)"),
     Rule("schedule", "the clock that is disabled waits for deadlines", ", {.size = 1, .kind = ON_DEADLINE, .cpu = ANY}", ""),
     Rule("schedule", "the clock that is disabled writes the time", "{.size = 1, .kind = ON_TIME, .how = WRITES}", "{.size = 1, .kind = ON_TIME}"),
     Rule("schedule", "a soft interrupt waits for its queue", ".kind = ON_PENDING, .cpu =", ".kind = ON_NOTHING, .cpu ="),
