@@ -245,7 +245,7 @@ WRAPPED(bool, cv_is_valid, (kcondvar_t *cv), (cv), AT(ON_CV, cv, 0))
 WRAPPED(void, cv_destroy, (kcondvar_t *cv), (cv), AT(ON_CV, cv, WRITES); track_ended(cv))
 
 /* A thread that waits for an rwlock is in the lock's own queue. */
-AROUND(void, rw_enter, (krwlock_t *rw, const krw_t how), (rw, how), AT(ON_LOCK, rw, 0),
+AROUND(void, rw_enter, (krwlock_t *rw, const krw_t how), (rw, how), LIVE(rw),
     touch(ON_LOCK, rw, 0, WRITES); acquire_clock(ON_LOCK, rw, 0))
 ANSWERED(int, rw_tryenter, (krwlock_t *rw, const krw_t how), (rw, how), AT(ON_LOCK, rw, WRITES), if (answer) acquire_clock(ON_LOCK, rw, 0))
 WRAPPED(void, rw_exit, (krwlock_t *rw), (rw), AT(ON_LOCK, rw, WRITES); release_clock(ON_LOCK, rw, 0))
@@ -357,13 +357,6 @@ const struct routine *append_held(char *text, const void *count)
 
 enum { OF_SETUP = KUPALDIZ_CPUS };	/* what is touched of the setup's references, beside those of each CPU */
 
-static void at_count_acquire(const char *call, const struct localcount *lc)
-{
-	at_reference(call, lc, sizeof(*lc), WRITES);
-	if (run.current->number == 0)
-		touch(ON_REFERENCES, lc, OF_SETUP, WRITES);
-}
-
 static void at_count_release(const char *call, const struct localcount *lc)
 {
 	at_reference(call, lc, sizeof(*lc), WRITES);
@@ -373,7 +366,7 @@ static void at_count_release(const char *call, const struct localcount *lc)
 		row->astray |= row->held[0] == 0;
 	}
 	if (row->astray)
-		touch(ON_REFERENCES, lc, ANY, WRITES);
+		touch(ON_REFERENCES, lc, ANY, 0);
 }
 
 WRAPPED(void, localcount_init, (struct localcount *lc), (lc), AT(ON_TARGET, lc, WRITES); track_owner(__func__, lc))
@@ -381,7 +374,7 @@ WRAPPED(void, localcount_fini, (struct localcount *lc), (lc), AT(ON_TARGET, lc, 
 AROUND(void, localcount_drain, (struct localcount *lc, kcondvar_t *cv, kmutex_t *interlock), (lc, cv, interlock),
     AT(ON_TARGET, lc, WRITES); check_made(__func__, interlock, sizeof(*interlock)); run.current->target = lc; run.current->relock = interlock,
     end_cv_wait(); run.current->target = NULL; acquire_clock(ON_REFERENCES, lc, 0))
-AROUND(void, localcount_acquire, (struct localcount *lc), (lc), at_count_acquire(__func__, lc), note_acquired(lc))
+AROUND(void, localcount_acquire, (struct localcount *lc), (lc), at_reference(__func__, lc, sizeof(*lc), WRITES), note_acquired(lc))
 AROUND(void, localcount_release, (struct localcount *lc, kcondvar_t *cv, kmutex_t *interlock), (lc, cv, interlock),
     at_count_release(__func__, lc); release_clock(ON_REFERENCES, lc, 0); note_released(lc), ++*releases_of(lc))
 WRAPPED(uint32_t, localcount_debug_refcnt, (const struct localcount *lc), (lc),

@@ -68,8 +68,8 @@ static void at_cache_put(const char *call, const struct pool *pool, const void *
 WRAPPED(void, pool_cache_put, (pool_cache_t cache, void *object), (cache, object), at_cache_put(__func__, pool_of(cache), object))
 
 WRAPPED(void *, percpu_getref, (percpu_t *percpu), (percpu), at_cpu(__func__); check_live(__func__, percpu, 1))
-WRAPPED(void, percpu_putref, (percpu_t *percpu), (percpu), at_thing(__func__, ON_TARGET, percpu, 1, 0))
-WRAPPED(void, percpu_free, (percpu_t *percpu, size_t size), (percpu, size), at_thing(__func__, ON_TARGET, percpu, 1, WRITES))
+WRAPPED(void, percpu_putref, (percpu_t *percpu), (percpu), at_live(__func__, percpu, 1))
+WRAPPED(void, percpu_free, (percpu_t *percpu, size_t size), (percpu, size), at_live(__func__, percpu, 1))
 
 struct look {
 	const percpu_t *percpu;
@@ -81,7 +81,7 @@ struct look {
 static void look_at(void *own, void *of, struct cpu_info *cpu)
 {
 	const struct look *each = of;
-	at_thing("percpu_foreach", ON_TARGET, each->percpu, 1, 0);
+	at_live("percpu_foreach", each->percpu, 1);
 	each->look(own, each->arg, cpu);
 }
 
