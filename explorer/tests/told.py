@@ -11,14 +11,14 @@ from pathlib import Path
 EXPLORER = Path(__file__).resolve().parent.parent
 WITHOUT = {
     "looks at nothing but the thread itself": "assert_sleepable at cpu cpu_softintr_p curcpu curlwp hz kernel_locked kpreempt_disabled set_hz set_strict softnet"
-    " mutex_ownable mutex_owned pserialize_in_read_section pserialize_not_in_read_section rw_write_held",
-    "initialises what no other thread has yet": "kthread_create mutex_obj_alloc percpu_alloc percpu_create pool_cache_init pool_init pserialize_create"
+    " pserialize_in_read_section pserialize_not_in_read_section rw_write_held",
+    "initialises what no other thread has yet": "kthread_create mutex_obj_alloc percpu_alloc percpu_create pool_cache_init pserialize_create"
     " psref_class_create softint_establish workqueue_create",
     "is made of calls that have points": "module_hook_exit module_hook_set module_hook_tryenter module_hook_unset",
     "ends the thread or the run": "failed failed_with kthread_exit panic",
 }
 # Those that the explorer has a call of its own for, which says what the step touches.
-TOUCHES = set("bind curlwp_bind curlwp_bindx unbind".split())
+TOUCHES = set("bind callout_init curlwp_bind curlwp_bindx cv_init mutex_init mutex_ownable mutex_owned pool_init rw_init unbind".split())
 PRINTED = r"^([a-z-]+): (\d+) schedules, (\d+) cut short, \d+ states, (\d+) points, \d+ switches$"
 
 

@@ -83,13 +83,15 @@ enum ending { IN_TIME, AS_IF_WOKEN, BY_SIGNAL };
 
 /* What the explorer alone decides: that a call which may sleep gives a raised level up until its end, also where it needn't wait; whether a call that may fail does
  * so, and whether the code's next wait, which may be one that signals end, ends early; how the last one has ended. It is told of a work that isn't in its
- * queue any more. */
+ * queue any more, and what a call reads and writes of the code's own memory. */
 #ifndef FAILS
 #define MAY_SLEEP()		((void)0)
 #define FAILS()			false
 #define MAY_END_EARLY(signals)	((void)(signals))
 #define LAST_ENDING()		IN_TIME
 #define DEQUEUED(work)		((void)(work))
+#define TELL_READ(at, size)	((void)0)
+#define TELL_WRITE(at, size)	((void)0)
 #endif
 
 struct thread;
