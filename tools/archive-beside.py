@@ -8,8 +8,8 @@ compiles registry_c over these, for one processor after the other. tools/build-a
 want of memory, it proves once more. The library for another processor is left in out/PROCESSOR, with what the proof said, for tools/build-archive.sh --for
 PROCESSOR, which proves it where it isn't there. The last line is that of `rt ci`, with a check more for the archive.
 
-Where there are four processors or more, `rt ci` gets all but one. On that one tools/edits.py tries the gate's edits of each crate that was proved, until
-`rt ci` ends. It keeps what is refused, and the gate tries the others afterwards.
+Where there are four processors or more, `rt ci` gets all but one. On that one tools/edits.py tries the gate's edits of each crate that was proved, and of
+none more once `rt ci` has ended. It keeps what is refused, and the gate tries the others afterwards.
 """
 import os
 import pathlib
@@ -21,10 +21,11 @@ import tempfile
 import time
 from concurrent.futures import ThreadPoolExecutor
 
-from edits import GATE, edits_of
+from edits import BESIDE
 from kit import below, kit, over_libraries
 from limits import LIMITS
-from parts import GIGABYTE, LAST_LINE, ROOT, ended, free_memory, guard, say, started, stop_running
+from checks import GIGABYTE, LAST_LINE, ROOT, ended, free_memory
+from wrong import GATE, edits_of
 
 LIBRARY = "registry_c"
 OUT = ROOT / "out"
@@ -51,10 +52,10 @@ def build(processor, room, began):
     words += ["--incremental", KEPT, "--toolchain", kit() / "toolchain", "--backend", "llvm", "-o", made]
     with open(log, "wb", buffering=0) as said:
         said.write(began)
-        with started(words, cwd=room / LIBRARY, stdout=said, stderr=said) as ran:
-            # Where memory runs out, this is what ends, and no check of rt ci.
-            pathlib.Path(f"/proc/{ran.pid}/oom_score_adj").write_text("1000")
-            return ran.wait() == 0
+        ran = subprocess.Popen(words, cwd=room / LIBRARY, stdin=subprocess.DEVNULL, stdout=said, stderr=said)
+        # Where memory runs out, this is what ends, and no check of rt ci.
+        pathlib.Path(f"/proc/{ran.pid}/oom_score_adj").write_text("1000")
+        return ran.wait() == 0
 
 
 def prove(room, began):
@@ -66,18 +67,19 @@ def prove(room, began):
     return [processor for processor in PROCESSORS if build(processor, room, began)]
 
 
-def try_edits(crate, processor):
-    words = [*NICE, "taskset", "-c", str(processor), "tools/edits.py", "gate", crate]
-    with started(words, cwd=ROOT, stdout=subprocess.DEVNULL, stderr=subprocess.DEVNULL) as ran:
-        ran.wait()
+def try_edits(edits, processor):
+    """Tries these on the processor, and adds what is said of them to what is known."""
+    with BESIDE.open("a") as said:
+        words = [*NICE, "taskset", "-c", str(processor), "tools/edits.py", *map(str, edits)]
+        subprocess.run(words, cwd=ROOT, stdin=subprocess.DEVNULL, stdout=said, stderr=subprocess.DEVNULL)
 
 
 def follow(command, proved, may_prove):
     """Runs the command. Calls `proved` with each crate that it proves, and `may_prove` once all beneath the library are; the last line, and the status."""
     waits, held = set(below(LIBRARY)), ""
-    with started(command, cwd=ROOT, stdout=subprocess.PIPE, text=True, errors="replace") as ran:
+    with subprocess.Popen(command, cwd=ROOT, stdin=subprocess.DEVNULL, stdout=subprocess.PIPE, text=True, errors="replace") as ran:
         for line in ran.stdout:
-            say(held)
+            print(held, end="", flush=True)
             held = line
             if stands := STANDS.match(line):
                 if stands[2] == "proved":
@@ -101,8 +103,7 @@ def main():
     command = sys.argv[1:]
     if not command:
         sys.exit(__doc__)
-    guard()
-    for path in (OUT / "libkupaldiz_proved.a", *(OUT / it / f"lib{LIBRARY}.a" for it in OTHERS)):
+    for path in (BESIDE, OUT / "libkupaldiz_proved.a", *(OUT / it / f"lib{LIBRARY}.a" for it in OTHERS)):
         path.unlink(missing_ok=True)
     *most, last = sorted(os.sched_getaffinity(0))
     has_many, proofs = len(most) + 1 >= MANY, []
@@ -113,17 +114,16 @@ def main():
         room = pathlib.Path(folder)
         try:
             line, status = follow(["taskset", "-c", ",".join(map(str, most)), *command] if has_many else command,
-                                  lambda crate: has_many and edits_of(crate, GATE) and edits.submit(try_edits, crate, last),
+                                  lambda crate: has_many and edits_of(crate, GATE) and edits.submit(try_edits, edits_of(crate, GATE), last),
                                   lambda: proofs.append(proving.submit(prove, room, began)))
             stands = bool(proofs) and archive(proofs[0].result(), room)
         finally:
             for pool in pools:
-                pool.shutdown(wait=False, cancel_futures=True)
-            stop_running()
+                pool.shutdown(cancel_futures=True)
     counted = LAST_LINE.match(line)
     if not counted:
         sys.exit(line)
-    say(f"{'ok     ' if stands else 'FAILED '} the archive, proved and built\n")
+    print("ok     " if stands else "FAILED ", "the archive, proved and built", flush=True)
     passed, failed = int(counted[1]) + stands, int(counted[2]) + (not stands)
     return ended(passed, failed or int(status != 0))
 

@@ -23,7 +23,7 @@ import re
 import sys
 import textwrap
 
-from parts import ROOT
+from checks import ROOT
 
 pages = importlib.import_module("header-pages")
 

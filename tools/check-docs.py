@@ -16,7 +16,7 @@ from fnmatch import fnmatch
 
 import errors
 import facts
-from parts import ROOT, counted
+from checks import ROOT, counted
 
 # Words in backquotes that no file of this repository has, by where they come from.
 FOREIGN = {

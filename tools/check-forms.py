@@ -10,8 +10,8 @@ import subprocess
 import sys
 import tempfile
 
-from edits import CRATES, ROOT, apply, edits_of
-from parts import counted
+from checks import ROOT, counted
+from wrong import CRATES, apply, edits_of
 
 
 def format_faults(folder):

@@ -8,7 +8,7 @@ import collections
 import re
 import sys
 
-from parts import ROOT, counted
+from checks import ROOT, counted
 
 CRATES = ROOT / "crates"
 IMPORT = re.compile(r"^ *(?:pub |ghost )*use ([\w.]+)\.\{([^}]*)\};?$", re.M)

@@ -24,7 +24,7 @@ from concurrent.futures import ThreadPoolExecutor
 
 from engines import ROOT, ran, said_when_tried
 from other_registry import FAULTS, Registry, report_of
-from parts import counted, ended, processors
+from checks import counted, ended, processors
 
 PROGRAM = ROOT / "crates/registry_run/out/registry_run"
 # So many scripts are written for a test.

@@ -37,7 +37,7 @@ import sys
 import tempfile
 
 from kit import listed
-from parts import ROOT, counted
+from checks import ROOT, counted
 
 FOLDER = ROOT / "docs/pictures"
 # The paper, the text, the faint text, and of each colour its fill and its line: light and dark.

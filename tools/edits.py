@@ -1,19 +1,17 @@
 #!/usr/bin/env -S python3 -B
 """Tries edits, the wrong bodies of crates/*/wrong.edits: the prover, or a test, must refuse each (docs/RECIPES.md).
 
-    tools/edits.py gate [CRATE]..            those of the kind `gate`; without CRATE also some twenty others, chosen by the commit
+    tools/edits.py gate [--beside]                those of the kind `gate`, and some twenty others; but not those refused beside this gate's `rt ci`
     tools/edits.py all | CRATE | CRATE/EDIT ..    these, of all kinds
 
-The prover's need the libraries that `rt ci` has built in crates/*/out/rlib. A refusal is kept by the sum of all that decided it, in ~/.cache/kupaldiz/edits,
-so a later run tries only what has changed. The last line is 'N passed, M failed'.
+The twenty others are chosen by the hash of the tree's files, which no other date or message of the commit changes. The prover's need the libraries that
+`rt ci` has built in crates/*/out/rlib. The last line is 'N passed, M failed'.
 
 Most of a check's time goes into reading the crates below, so one check tries edits of several bodies of a crate. A function is proved of its own body and of
-the contracts of what it calls, which stay, so the other edits don't matter to it.
+the contracts of what it calls, which stay, so the other edits don't matter to it. What isn't refused so is tried alone.
 """
 import collections
-import functools
-import hashlib
-import os
+import itertools
 import pathlib
 import re
 import shutil
@@ -22,78 +20,25 @@ import sys
 import tempfile
 from concurrent.futures import ThreadPoolExecutor
 
+from checks import GIGABYTE, ROOT, at_once, counted
 from contracts import body_begins, functions_of, module_of
-from kit import below, built, kit, over_libraries
-from parts import GIGABYTE, ROOT, at_once, counted
+from kit import kit, over_libraries
+from wrong import CRATES, GATE, PROVER, TESTS, apply, edits_of, places
 
-GATE, PROVER, TESTS = KINDS = ("gate", "prover", "tests")
-BLOCK = re.compile(rf"^({'|'.join(KINDS)}) (\w+) in (\S+):(.*)\n((?:    .*\n)*)", re.M)
 # How many of the others a gate tries, by their kind. They follow one another in their files, so few crates are read for them.
 SAMPLE = {PROVER: 17, TESTS: 3}
-CRATES = sorted(it.name for it in (ROOT / "crates").iterdir() if it.is_dir())
-STORE = pathlib.Path(os.environ.get("XDG_CACHE_HOME", pathlib.Path.home() / ".cache")) / "kupaldiz" / "edits"
+# What this said of the gate's edits beside the last `rt ci` of a gate: tools/archive-beside.py begins the file anew.
+BESIDE = ROOT / "out/refused-beside"
 # The crates whose tests are the program's rows, too.
 BY_ROWS = ("script_tests", "registry_run")
-# What a check says of a function, of a goal that isn't proved, of code that it can't read, and as it ends. A fault of a proof that names what an edit took
-# away says nothing of the edit.
+# What a check says of a function, of one that only calls what isn't proved, of a goal that isn't proved, of code that it can't read, and as it ends. A fault
+# of a proof that names what an edit took away says nothing of the edit.
 STATE = re.compile(r"^fn (\S+): (.*)$", re.M)
+CALLS = "no proof: it calls "
 GONE = r"has no field|is not in scope|has no `|was not admitted"
 GOAL = re.compile(rf"^(?:note: |\./)?((?:src|specs|proofs)/\S+:\d+:\d+: (?!.*(?:{GONE})).*(?:not proved|error).*)$", re.M)
 UNREAD = re.compile(r"^(?:\./)?(?:src|specs)/\S+: error.*|^error\[.*", re.M)
 ENDED = re.compile(r"^(?:only|logic)=.*\Z", re.M)
-Change = collections.namedtuple("Change", "path old new")
-
-
-class Edit(collections.namedtuple("Edit", "crate kind name file reason text")):
-    """An edit: the first file that it changes, why it is wrong, and its other lines."""
-
-    def __str__(self):
-        return f"{self.crate}/{self.name}"
-
-
-def file_of(crate):
-    return ROOT / "crates" / crate / "wrong.edits"
-
-
-def edits_of(crate, *kinds):
-    """The edits of a crate, of these kinds or all, in the file's order."""
-    text = file_of(crate).read_text() if file_of(crate).is_file() else ""
-    if strange := BLOCK.sub("", text).strip():
-        sys.exit(f"{crate}/wrong.edits: neither a line KIND NAME in FILE: REASON nor one below it: {strange.splitlines()[0]}")
-    found = (Edit(crate, *block) for block in BLOCK.findall(text))
-    return [it for it in found if it.kind in (kinds or KINDS)]
-
-
-def changes(edit, tree=ROOT):
-    """The changes of an edit, in order. It names its files from the top of the tree if it is for the tests, else from its crate's folder."""
-    base = tree if edit.kind == TESTS else tree / "crates" / edit.crate
-    path = base / edit.file
-    for line in edit.text.splitlines():
-        old, is_change, new = line.removeprefix("    ").partition(" ==>")
-        if is_change:
-            yield Change(path, old, new.removeprefix(" "))
-        elif old.startswith("file: "):
-            path = base / old.removeprefix("file: ")
-
-
-def places(edit):
-    """The file and the line of each text that the edit changes."""
-    for path, old, _ in changes(edit):
-        before, found, _ = path.read_text().partition(old) if path.is_file() else ("", "", "")
-        if found:
-            yield path, before.count("\n")
-
-
-def apply(edit, tree):
-    """Applies the edit to `tree`; returns its files' text as it was, and why the edit doesn't fit, if so."""
-    before = {}
-    for path, old, new in changes(edit, tree):
-        text = path.read_text() if path.is_file() else ""
-        before.setdefault(path, text)
-        if text.count(old) != 1:
-            return before, f"stands {text.count(old)} times in {path.relative_to(tree)}: {old}"
-        path.write_text(text.replace(old, new))
-    return before, "" if any(path.read_text() != text for path, text in before.items()) else "it changes nothing"
 
 
 def function_of(edit):
@@ -103,11 +48,11 @@ def function_of(edit):
 
 
 def asked_for(edit):
-    """The functions to check: those of its line `only`, or the one whose body it changes; else none, for the whole crate. A method is named by its type, a
-    function by its module."""
+    """The functions to check: those of its line `only`, or the one whose body it changes; else none, for the whole crate."""
     if named := re.search(r"^    only: (.+)$", edit.text, re.M):
         return named[1].split()
     function = function_of(edit)
+    # A method is named by its type, a function by its module.
     module = "" if not function or "::" in function.name else module_of(function.path, ROOT / "crates" / edit.crate / "src")
     return ["::".join(filter(None, (module, function.name)))] if function else []
 
@@ -144,20 +89,22 @@ def is_of(goal, edit, paths):
 
 
 def judged(edit, said, is_alone):
-    """What refuses the edit, or '', and else what is wrong, by what a check said. Of an edit tried beside others a goal of its own function must say it."""
+    """What refuses the edit, or '', and else what is wrong, by what a check said. Of an edit tried beside others its own function must fail, and not by what
+    that calls."""
     names = asked_for(edit)
     own = {path: state for path, state in STATE.findall(said) if not names or any(f"::{path}".endswith(f"::{it}") for it in names)}
     if names and not own or not ENDED.search(said) or UNREAD.search(said):
         return "", f"NOT TRIED: {next(iter(UNREAD.findall(said)), said[-300:])}"
-    if all(state == "proved" for state in own.values()):
+    failed = {path: state for path, state in own.items() if state != "proved" and not state.startswith(CALLS)}
+    if not failed:
         return "", f"NOT REFUSED: {', '.join(own) or 'the whole crate'} still proved"
-    found = [it for it in GOAL.findall(said) if is_alone or is_of(it, edit, own)]
-    found += [state for state in own.values() if state.startswith("no proof")]
+    found = [goal for goal in GOAL.findall(said) if is_alone or is_of(goal, edit, failed)]
+    found += [state for state in failed.values() if state.startswith("no proof")]
     return (found[0][:200], "") if found else ("", "NOT TRIED: it is refused only because a proof names what it took away")
 
 
-def by_prover(crate, edits):
-    """Each of these edits of a crate with what refuses it, or what is wrong. What isn't refused beside others is tried alone."""
+def by_prover(edits):
+    """Each of these edits of a crate with what refuses it, or what is wrong."""
     with tempfile.TemporaryDirectory() as kept:
         waiting = rounds(edits)
         while waiting:
@@ -194,40 +141,13 @@ def by_test(edit):
     return "", "NOT REFUSED: all tests pass"
 
 
-@functools.cache
-def sum_of(crate):
-    """The sum of what a check of the crate reads: the kit, how edits are tried, the crate, and the libraries below it."""
-    total = hashlib.sha256((kit() / "KIT-ID").read_bytes() + b"".join((ROOT / "tools" / f"{it}.py").read_bytes() for it in ("contracts", "edits", "kit")))
-    files = [it for part in ("src", "specs", "proofs") for it in (ROOT / "crates" / crate / part).rglob("*") if it.is_file()]
-    for path in [ROOT / "crates.txt", *sorted(files), *(built(it) / "format" for it in below(crate))]:
-        total.update(str(path.relative_to(ROOT)).encode() + path.read_bytes())
-    return total.hexdigest()
-
-
-def place_of(edit):
-    """Where the edit's refusal is kept."""
-    return STORE / hashlib.sha256(f"{sum_of(edit.crate)}{edit.file}{edit.text}".encode()).hexdigest()
-
-
-def tried(crate, edits):
-    """Each edit of a crate with what refuses it, or what is wrong; those of the prover that a run before refused aren't tried again."""
-    proved = [it for it in edits if it.kind != TESTS]
-    kept = [it for it in proved if place_of(it).is_file()]
-    found = [(it, f"{place_of(it).read_text()} (kept)", "") for it in kept]
-    for edit, refusal, fault in by_prover(crate, [it for it in proved if it not in kept]):
-        found.append((edit, refusal, fault))
-        if refusal and sum_of.__wrapped__(crate) == sum_of(crate):
-            STORE.mkdir(parents=True, exist_ok=True)
-            place_of(edit).write_text(refusal)
-    return found + [(it, *by_test(it)) for it in edits if it.kind == TESTS]
-
-
 def sample():
-    """Some twenty edits that aren't the gate's, chosen by the commit."""
-    commit = subprocess.run(["git", "-c", "safe.directory=*", "rev-parse", "HEAD"], cwd=ROOT, check=True, stdout=subprocess.PIPE, text=True).stdout
+    """Some twenty edits that aren't the gate's, chosen by the tree."""
+    words = ["git", "-c", "safe.directory=*", "rev-parse", "HEAD^{tree}"]
+    tree = subprocess.run(words, cwd=ROOT, check=True, stdout=subprocess.PIPE, text=True).stdout
     for kind, many in SAMPLE.items():
         others = [it for crate in CRATES for it in edits_of(crate, kind)]
-        first = int(commit[:8], 16) % -(-len(others) // many) * many if others else 0
+        first = int(tree[:8], 16) % -(-len(others) // many) * many if others else 0
         yield from others[first:first + many]
 
 
@@ -237,28 +157,40 @@ def named(word):
     return [it for it in edits_of(crate) if name in ("", it.name)] or sys.exit(f"no edit {word}")
 
 
-def told(crates):
-    """Prints what refuses each edit; yields what is wrong with it, or ''."""
-    with ThreadPoolExecutor(at_once(2.5 * GIGABYTE)) as pool:
-        for found in pool.map(lambda it: tried(*it), crates.items()):
-            for edit, refusal, fault in found:
-                if refusal:
-                    print(f"{edit}: refused: {refusal}", flush=True)
-                yield fault and f"{edit}: {fault}"
+def tried(edits):
+    """Each of these edits of a crate with what refuses it, or what is wrong."""
+    yield from by_prover([it for it in edits if it.kind != TESTS])
+    yield from ((it, *by_test(it)) for it in edits if it.kind == TESTS)
 
 
-def main(first=None, *others):
-    if not first or first.startswith("-"):
-        sys.exit(__doc__)
-    if first == "gate":
-        wanted = [it for crate in others or CRATES for it in edits_of(crate, GATE)] + ([] if others else list(sample()))
-    else:
-        wanted = [it for crate in CRATES for it in edits_of(crate)] if first == "all" else [it for word in (first, *others) for it in named(word)]
+def told(edits):
+    """Tries edits, those of a crate one after the other; prints what refuses each, and yields what is wrong with it, or ''."""
     of = collections.defaultdict(list)
-    for edit in wanted:
+    for edit in edits:
         of[edit.crate].append(edit)
-    return counted(told(of))
+    with ThreadPoolExecutor(at_once(2.5 * GIGABYTE)) as pool:
+        for edit, refusal, fault in itertools.chain.from_iterable(pool.map(lambda those: list(tried(those)), of.values())):
+            if refusal:
+                print(f"{edit}: refused: {refusal}", flush=True)
+            yield fault and f"{edit}: {fault}"
+
+
+def of_gate(beside):
+    """Tells of the edits that a gate tries, except these, which were refused already."""
+    edits = [it for crate in CRATES for it in edits_of(crate, GATE)]
+    yield from ("" for it in edits if str(it) in beside)
+    yield from told([*(it for it in edits if str(it) not in beside), *sample()])
+
+
+def main(words):
+    if not words or words[0].startswith("-"):
+        sys.exit(__doc__)
+    if words in (["gate"], ["gate", "--beside"]):
+        said = BESIDE.read_text() if words[1:] and BESIDE.is_file() else ""
+        return counted(of_gate(re.findall(r"^(\S+): refused: ", said, re.M)))
+    groups = map(edits_of, CRATES) if words == ["all"] else map(named, words)
+    return counted(told(itertools.chain.from_iterable(groups)))
 
 
 if __name__ == "__main__":
-    sys.exit(main(*sys.argv[1:]))
+    sys.exit(main(sys.argv[1:]))

@@ -9,7 +9,7 @@ import re
 import sys
 import textwrap
 
-from parts import ROOT
+from checks import ROOT
 
 TABLE, PAGE = ROOT / "docs/ERRORS.md", ROOT / "man/kupaldiz.7"
 BEGIN, END = '.\\" Made of docs/ERRORS.md by tools/errors.py, down to the next such line.\n', '.\\" tools/errors.py: the end.\n'

@@ -16,9 +16,9 @@ import textwrap
 
 import contracts
 from contracts import contract
-from edits import CRATES, GATE, PROVER, ROOT, file_of, places
-from edits import edits_of as edits_of_crate
-from parts import ended
+from checks import ROOT, ended
+from wrong import CRATES, GATE, PROVER, file_of, places
+from wrong import edits_of as edits_of_crate
 
 PAGE = ROOT / "docs/EVENTS.md"
 BEGIN, END = "<!-- tools/event-table.py make -->\n\n", "\n<!-- end -->\n"

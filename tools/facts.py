@@ -6,7 +6,7 @@ place of the names in braces. Blanks, line ends and marks of Markdown don't coun
 import re
 import subprocess
 
-from parts import ROOT
+from checks import ROOT
 
 FACTS = ROOT / "docs/facts"
 HEADER = "crates/registry_c/include/kupaldiz.h"

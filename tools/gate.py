@@ -1,62 +1,82 @@
 #!/usr/bin/env -S python3 -B
 """The merge gate: all that a merge requires, in one command.
 
-    tools/gate.py              installs nothing: a part fails that lacks a package, and says how to get it
+    tools/gate.py              installs nothing: what lacks a package fails, and says how to get it
     tools/gate.py --install    installs what is missing first, by apt-get (tools/packages.py); .ci/run
                                is this
 
-Each part below has a name and a command; that command's file says at its head what it does.
-tools/parts.py has the bounds on what the whole may take. docs/GATE.md says how to run one
-part, and how to read a failure.
+The steps below come one after the other. Each is a command; that command's file says at its head what it
+does. docs/GATE.md says how to run one step, or one test, and how to read a failure.
 
-The groups come one after the other, the parts of a group beside each other. The last line,
-'N passed, M failed', counts all of it; the status is 0 if nothing failed.
+The last line, 'N passed, M failed', counts all of it; the status is 0 if nothing failed.
 """
+import collections
+import resource
+import subprocess
 import sys
+import time
 
-from parts import Part, gate
+from checks import LAST_LINE, ROOT, ended, processors
 
 WORDS = sys.argv[1:]
-if WORDS not in ([], ["--install"]):
-    sys.exit(__doc__)
-
-PROGRAM = "crates/registry_run/out/registry_run"
-FACE = "tools/test-face.sh --built"
-DRIVERS = "out/script out/rust/release/examples/script"
-
-sys.exit(gate(
-    [Part("packages", ["tools/packages.py", *WORDS])],
-    # What needs no proof.
-    [
-        Part("layout and edits", "tools/check-forms.py"),
-        Part("documents", "tools/check-docs.py"),
-        Part("limits", "tools/limits.py check"),
-        Part("imports", "tools/check-imports.py"),
-        Part("table of the events", "tools/event-table.py check"),
-        Part("pages of the headers", "tools/header-pages.py check"),
-    ],
+TESTS = "tools/run-tests.py"
+STEPS = [
+    ("packages", ["tools/packages.py", *WORDS]),
+    ("documents", [TESTS, "documents"]),
     # Every proof of the crates, except what an earlier run on this machine proved of the same files, and every test.
-    [Part("rt ci, and the archive", "tools/archive-beside.py rt ci")],
+    ("rt ci, and the archive", ["tools/archive-beside.py", "rt", "ci"]),
     # Wrong bodies, over the libraries that were proved.
-    [Part("edits", "tools/edits.py gate")],
+    ("edits", ["tools/edits.py", "gate", "--beside"]),
     # What stands outside of Rattle, over the program and the archive that were proved.
-    [Part("clients are built", f"{FACE} build")],
-    [
-        Part("Rust clients, watched", f"{FACE} rust-watched"),
-        Part("Rust clients", f"{FACE} rust"),
-        Part("C clients, watched", f"{FACE} watched"),
-        Part("C clients", f"{FACE} c"),
-        Part("aarch64, under qemu", "tools/test-aarch64.sh --built"),
-        Part("memory behind entries", f"{FACE} heap"),
-        Part("the manual pages' names", f"{FACE} netbsd"),
-        Part("the explorer", f"{FACE} explorer"),
-        Part("tutorial", "tools/test-tutorial.py"),
-        Part("manual page", f"{FACE} page"),
-        Part("program", "tools/test-program.py"),
-        Part("examples", f"tools/run-examples.py --program {PROGRAM}"),
-        Part("pictures", "tools/draw.py check"),
-        Part("the tools themselves", "tools/test-tools.py"),
-    ],
-    # Both engines, and the drivers of the library in C and Rust that the parts above built, on the same scripts.
-    [Part("conformance kit", f"tools/conformance.py test {DRIVERS}")],
-))
+    ("clients", [TESTS, *"page build c watched heap netbsd explorer rust rust-watched aarch64 tutorial program tools".split()]),
+]
+Ended = collections.namedtuple("Ended", "name passed failed clock processor")
+
+
+def say(text):
+    print(text, end="", flush=True)
+
+
+def judged(command):
+    """Runs a command, and prints what it says as it comes, except its count; how many checks passed and failed. One that ends without a count fails."""
+    held = ""
+    with subprocess.Popen(command, cwd=ROOT, stdin=subprocess.DEVNULL, stdout=subprocess.PIPE, text=True, errors="replace") as process:
+        for line in process.stdout:
+            say(held)
+            held = line
+    count = LAST_LINE.match(held)
+    say("" if count else held)
+    passed, failed = map(int, count.groups()) if count else (0, 0)
+    return passed, failed or int(process.returncode != 0 or passed == 0)
+
+
+def used():
+    """The seconds of processors that all commands so far have taken."""
+    found = resource.getrusage(resource.RUSAGE_CHILDREN)
+    return found.ru_utime + found.ru_stime
+
+
+def step(name, command):
+    say(f"== {name}\n")
+    began, before = time.monotonic(), used()
+    counts = judged(command)
+    return Ended(name, *counts, time.monotonic() - began, used() - before)
+
+
+def table(steps):
+    """What each step took, as a table for a document."""
+    say("| Step | Passed | Failed | Minutes by the clock | Processor minutes |\n|---|---|---|---|---|\n")
+    for it in [*steps, Ended(f"all, on {processors()} processors", *(map(sum, list(zip(*steps))[1:])))]:
+        say(f"| {it.name} | {it.passed} | {it.failed} | {it.clock / 60:.1f} | {it.processor / 60:.1f} |\n")
+
+
+def main():
+    if WORDS not in ([], ["--install"]):
+        sys.exit(__doc__)
+    done = [step(*it) for it in STEPS]
+    table(done)
+    return ended(sum(it.passed for it in done), sum(it.failed for it in done))
+
+
+if __name__ == "__main__":
+    sys.exit(main())

@@ -21,7 +21,7 @@ import re
 import sys
 import textwrap
 
-from parts import ROOT, counted
+from checks import ROOT, counted
 
 PAGES = {"kupaldiz": "crates/registry_c/include/kupaldiz.h", "kupaldiz_waiting": "c/include/kupaldiz_waiting.h",
          "kupaldiz_table": "c/include/kupaldiz_table.h"}

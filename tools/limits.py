@@ -12,7 +12,7 @@ import pathlib
 import re
 import sys
 
-from parts import ROOT, counted
+from checks import ROOT, counted
 
 LIMITS = "crates/registry_values/src/limits.rt"
 ROOM = "crates/registry_values/specs/Limits.antt"

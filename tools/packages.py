@@ -6,7 +6,7 @@ nothing unless --install is given.
     tools/packages.py --install [PART..]    says what it installs, and installs it by apt-get, which
                                             takes root and a network
 
-A PART is one of PARTS: a part of tools/test-face.sh, or another test. Without one all parts count.
+A PART is one of PARTS: a group of tests (tools/run-tests.py), or a tool. Without one all parts count.
 Each row of PACKAGES is a check, and the last line is 'N passed, M failed'.
 """
 import collections
@@ -16,7 +16,7 @@ import shutil
 import subprocess
 import sys
 
-from parts import ended
+from checks import ended
 
 # Packages, a command or file that shows that they are there, and the parts that need them.
 Package = collections.namedtuple("Package", "names shown parts")
@@ -25,6 +25,7 @@ FACE = "page build c watched heap netbsd explorer rust rust-watched"
 # What the parts are called where a user reads of them.
 PARTS = {
     "archive": "tools/build-archive.sh",
+    "tests": "all tests, which ctest runs",
     "page": "the manual pages",
     "build": "the clients in C are built",
     "c": "the clients in C",
@@ -37,6 +38,7 @@ PARTS = {
     "aarch64": "aarch64, under qemu",
 }
 PACKAGES = [Package(names, shown, parts.split()) for names, shown, parts in (
+    ("cmake", "ctest", f"tests aarch64 {FACE}"),
     ("git", "git", "c"),
     ("gcc libc6-dev", "gcc", f"archive aarch64 {FACE}"),
     ("binutils", "ar", f"archive aarch64 {FACE}"),
@@ -94,8 +96,7 @@ def install(packages):
         subprocess.run(command, stdin=subprocess.DEVNULL, env=quiet, check=False)
 
 
-def main():
-    words = sys.argv[1:]
+def main(words):
     may_install = words[:1] == ["--install"]
     parts = words[may_install:] or list(PARTS)
     if unknown := sorted(set(parts) - set(PARTS)):
@@ -111,4 +112,4 @@ def main():
 
 
 if __name__ == "__main__":
-    sys.exit(main())
+    sys.exit(main(sys.argv[1:]))

@@ -18,7 +18,7 @@ import re
 import sys
 
 from engines import ROOT, ran, said_when_tried
-from parts import counted
+from checks import counted
 
 ENGINES = ("core", "live")
 # What is above the report in a file of its script.

@@ -8,7 +8,7 @@ import re
 import sys
 import textwrap
 
-from parts import ROOT, counted
+from checks import ROOT, counted
 
 HEADER = ROOT / "crates/registry_c/include/kupaldiz.h"
 MADE = ROOT / "rust/src/calls.rs"

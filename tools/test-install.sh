@@ -2,11 +2,9 @@
 # Installs libkupaldiz, libkupaldiz_netbsd and libkupaldiz_explorer into scratch folders, looks at each file that is there, builds and runs programs that know
 # the libraries by pkg-config alone, and uninstalls them: under a folder of its own, as Debian has it, in a path with blanks, and over an older version.
 # It needs out/libkupaldiz_proved.a; the last line is 'N passed, M failed'.
-# shellcheck source=tools/checks.sh
-. "$(dirname "$0")/checks.sh"
+# shellcheck source=tools/tests/scenario.sh
+. "$(dirname "$0")/tests/scenario.sh"
 need out/libkupaldiz_proved.a "tools/build-archive.sh proves and builds it"
-has_packages c || finish
-header=crates/registry_c/include/kupaldiz.h
 module=kupaldiz
 # What is installed from, and where to.
 top=.
@@ -41,8 +39,8 @@ has_soname() {
 
 # A program of the pages' names that is compiled for other CPUs than the library has doesn't link, and the linker names them.
 refused_by_linker() {
-    ! gcc -DKUPALDIZ_CPUS=15 -o "$room/for_other" -I"$stage$prefix/include/kupaldiz/netbsd" c/tests/installed_netbsd.c -L"$stage$libdir" -lkupaldiz_netbsd -pthread >"$room/said" 2>&1 &&
-        grep 'undefined reference to .kupaldiz_for_15_cpus' "$room/said"
+    ! gcc -DKUPALDIZ_CPUS=15 -o "$room/for_other" -I"$stage$prefix/include/kupaldiz/netbsd" c/tests/installed_netbsd.c -L"$stage$libdir" -lkupaldiz_netbsd -pthread >"$said" 2>&1 &&
+        grep 'undefined reference to .kupaldiz_for_15_cpus' "$said"
 }
 
 # An #include of a plain name, as <cpu.h>, finds nothing of these libraries: what the folders for the compiler offer has the library's name, or a folder's.
@@ -149,8 +147,8 @@ mixed_build_is_told() {
     # shellcheck disable=SC2086
     gcc -c -o "$room/other.o" $words "$room/other.c" && gcc -c -o "$room/own.o" -DKUPALDIZ_CHECK $words c/tests/installed.c &&
         gcc -o "$room/mixed" "$room"/{own,other}.o -L"$stage$libdir" -lkupaldiz_check -lkupaldiz -pthread || return
-    LD_LIBRARY_PATH=$stage$libdir "$room/mixed" 2>"$room/said"
-    [ $? -eq 134 ] && grep ': kupaldiz_open: a file of the program is compiled without -DKUPALDIZ_CHECK$' "$room/said"
+    LD_LIBRARY_PATH=$stage$libdir "$room/mixed" 2>"$said"
+    [ $? -eq 134 ] && grep ': kupaldiz_open: a file of the program is compiled without -DKUPALDIZ_CHECK$' "$said"
 }
 
 # holds_files VERSION: those files and no others.
@@ -192,6 +190,11 @@ installed_pages() {
 
 holds_pages() {
     diff <(wanted_pages | sort) <(installed_pages 2>&1 | sort)
+}
+
+# Some programs are built and run, and none fails.
+programs_run() {
+    made installcheck | tee "$said" && grep -xE '[1-9][0-9]* passed, 0 failed' "$said"
 }
 
 # Pages and folders can be read by everyone.
@@ -236,7 +239,7 @@ licence_is_told() {
 
 # A call that the header declares, and that neither a map nor a library has. Nothing is built anew, as the header looks old.
 unnamed_call_is_told() {
-    sed -i 's/^const char \*kupaldiz_version(/uint32_t kupaldiz_unnamed(void);\n&/' "$header" && touch -d @0 "$header" && ! made symbols >"$room/said" 2>&1 && grep -x '< kupaldiz_unnamed' "$room/said"
+    sed -i 's/^const char \*kupaldiz_version(/uint32_t kupaldiz_unnamed(void);\n&/' "$header" && touch -d @0 "$header" && ! made symbols >"$said" 2>&1 && grep -x '< kupaldiz_unnamed' "$said"
 }
 
 # comes NAME: it is installed there, and goes NAME: it is uninstalled.
@@ -274,7 +277,7 @@ for library in libkupaldiz libkupaldiz_netbsd; do
 done
 check "libkupaldiz_explorer, which switches stacks, takes none" negated takes_shadow_stack libkupaldiz_explorer
 check "a program of the pages' names for other CPUs doesn't link" refused_by_linker
-counted "programs over what is installed" made installcheck
+check "programs over what is installed" programs_run
 if command -v cmake >/dev/null; then
     check "CMake: find_package finds the libraries" found_by_cmake
 fi
@@ -286,7 +289,7 @@ goes ""
 place() {
     prefix=$2 libdir=$3 stage=$room/$4
     comes "$1: "
-    [[ $stage = *\ * ]] || counted "$1: programs" made installcheck
+    [[ $stage = *\ * ]] || check "$1: programs" programs_run
     goes "$1: "
 }
 

@@ -17,7 +17,7 @@ import sys
 import tempfile
 
 from engines import MOST_SECONDS, said_when_tried
-from parts import ROOT, ended
+from checks import ROOT, ended
 
 sys.path.append(str(ROOT / "crates/registry_run"))
 from rows import Row, rows

@@ -14,8 +14,8 @@
 #
 # It runs as root, and needs mmdebstrap, and a mirror while a root is made. RELEASE names another folder than release/, ROOTS where the roots are kept from run
 # to run. The last line is 'N passed, M failed'.
-# shellcheck source=tools/checks.sh
-. "$(dirname "$0")/checks.sh"
+# shellcheck source=tools/tests/scenario.sh
+. "$(dirname "$0")/tests/scenario.sh"
 release=$(realpath -m "${RELEASE:-release}")
 suite=bookworm
 architectures=amd64
@@ -71,8 +71,7 @@ inside() {
 
 # tries NAME PART: counts the part, in the root of that name, as one check. Its lines `done: ..` say what it shows.
 tries() {
-    inside "$2" >"$log" 2>&1
-    judge "$1" $?
+    check "$1" inside "$2"
     sed -n 's/^done: /        /p' "$log"
 }
 

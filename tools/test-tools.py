@@ -1,5 +1,5 @@
 #!/usr/bin/env -S python3 -B
-"""Tries the tools that judge others: how parts are counted and ended, the sampler of wrong bodies, and the conformance kit.
+"""Tries the tools that judge others: the gate, the runner of tests, the sampler of wrong bodies, and the conformance kit.
 
     tools/test-tools.py [WORD]..    the cases whose names have one of the words, or all
 
@@ -15,7 +15,7 @@ import sys
 import tempfile
 from concurrent.futures import ThreadPoolExecutor
 
-from parts import ROOT, counted, processors
+from checks import ROOT, counted, processors
 
 # A fault: its name, what the tool must say of it, and its changes: of each a path with an old text, which the file has once, and a new one. `command`
 # replaces that of the case.
@@ -28,57 +28,39 @@ def of(path, *rows):
     return [Fault(name, said, ((path, old, new),)) for name, said, old, new in rows]
 
 
-GATE = """#!/usr/bin/env python3
-import sys
-
-sys.path.insert(0, "tools")
-
-from parts import Part, gate
-
-sys.exit(gate([Part("one", "./one"), Part("two", "./two")], [Part("alone", "./alone")]))
-"""
 PASSES = "#!/bin/sh\necho begun\necho 3 passed, 0 failed\n"
-# A fault of the part that runs beside another one, and of the part that is alone.
-IN_PARTS = [fault for part in ("one", "alone") for fault in of(
-    part,
-    (f"{part}: a failure", "8 passed, 1 failed", "3 passed, 0", "2 passed, 1"),
-    (f"{part}: no check", "6 passed, 1 failed", "3 passed, 0", "0 passed, 0"),
-    (f"{part}: no count", "6 passed, 1 failed", "echo 3 passed, 0 failed\n", ""),
-    (f"{part}: a count that isn't last", "6 passed, 1 failed", "0 failed\n", "0 failed\necho more\n"),
-    (f"{part}: another status", "9 passed, 1 failed", "0 failed\n", "0 failed\nexit 2\n"),
-    (f"{part}: it is killed", "6 passed, 1 failed", "echo 3", "kill -KILL $$; echo 3"))]
-PARTS = Case("parts", ["parts.py"], {"gate": GATE, "one": PASSES, "two": PASSES, "alone": PASSES}, ["./gate"], [
-    *IN_PARTS, *of("gate", ("no parts", "0 passed, 1 failed", GATE, GATE.partition("gate([")[0] + "gate())\n"))])
 
-# A gate of more parts than run at once is told to end once a part has begun, twice, as timeout(1) does it. It ends, and so does each part.
-ENDS = """#!/bin/sh
-timeout -k 60 600 ./gate &
-limit=$!
-until [ -e begun ]; do sleep 0.1; done
-kill $limit
-wait $limit
-[ $? != 137 ] || { echo "it does not end"; exit 1; }
-! grep -lz "^WAITS=$PWD/wait" /proc/[0-9]*/environ 2>/dev/null || { echo "a part goes on"; exit 1; }
-"""
-ENDING = Case("parts that are ended", ["parts.py"], {
-    "gate": GATE.replace('Part("two", "./two")', '*[Part("two", "./two")] * 20'), "one": PASSES, "alone": PASSES,
-    "two": "#!/bin/sh\n: >begun\nexec env WAITS=$PWD/wait sleep 90\n", "ends": ENDS}, ["./ends"],
-    of("tools/parts.py", ("parts that aren't ended", "it does not end", "os.kill(pid, number)", "pass")))
 
-SHELL = """#!/usr/bin/env bash
-. tools/checks.sh
-has_packages page || finish
-check "true is" test 1 = 1
-counted "counts" ./one
-finish
+def wrong_counts(path, told, told_none):
+    """What a command may do that ends with a count: what the tool says if a check of it fails, and if nothing of it counts."""
+    return of(path, (f"{path}: a failure", told, "3 passed, 0", "2 passed, 1"), (f"{path}: no check", told_none, "3 passed, 0", "0 passed, 0"),
+              (f"{path}: no count", told_none, "echo 3 passed, 0 failed\n", ""), (f"{path}: it is killed", told_none, "echo 3", "kill -KILL $$; echo 3"))
+
+
+# The gate over steps of one kind: those of tests come twice.
+STEPS = {f"tools/{it}": PASSES for it in ("packages.py", "run-tests.py", "archive-beside.py", "edits.py")}
+GATE = Case("gate", ["gate.py", "checks.py"], STEPS, ["tools/gate.py"], [
+    *wrong_counts("tools/edits.py", "14 passed, 1 failed", "12 passed, 1 failed"),
+    *of("tools/edits.py", ("a count that isn't last", "12 passed, 1 failed", "0 failed\n", "0 failed\necho more\n"),
+        ("another status", "15 passed, 1 failed", "0 failed\n", "0 failed\nexit 2\n"))])
+
+LIST = """cmake_minimum_required(VERSION 3.21)
+project(small NONE)
+enable_testing()
+add_test(NAME first COMMAND ${CMAKE_SOURCE_DIR}/counted.sh ../../one)
+add_test(NAME second COMMAND ${CMAKE_SOURCE_DIR}/../../two)
+set_tests_properties(first PROPERTIES LABELS some FIXTURES_SETUP one)
+set_tests_properties(second PROPERTIES LABELS some FIXTURES_REQUIRED one TIMEOUT 2)
 """
-SHELLS = Case("checks.sh", ["checks.sh"], {"shell": SHELL, "one": PASSES, "tools/packages.py": "#!/bin/sh\nexit 0\n"}, ["./shell"], [
-    *of("tools/packages.py", ("a package that is missing", "FAILED  the packages that page needs", "exit 0", "echo there is no $1; exit 1")),
-    *of("shell", ("a check that fails", "FAILED  true is", "test 1 = 1", "test 1 = 2"),
-        ("no checks", "0 passed, 1 failed", 'check "true is" test 1 = 1\ncounted "counts" ./one\n', "")),
-    *of("one", ("a count with a failure", "FAILED  counts: 1 of 4", "0 failed", "1 failed"),
-        ("no count", "FAILED  counts", "echo 3 passed, 0 failed\n", ""),
-        ("another status", "FAILED  counts", "0 failed\n", "0 failed\nexit 1\n"))])
+ALL = "tools/tests/CMakeLists.txt"
+RUNS = Case("run-tests", ["run-tests.py", "checks.py", "packages.py", "tests/counted.sh"], {ALL: LIST, "one": PASSES, "two": "#!/bin/sh\nexit 0\n"},
+            ["tools/run-tests.py", "some"], [
+    # The second test isn't run then, and that is a failure, too.
+    *wrong_counts("one", "2 passed, 2 failed", "0 passed, 2 failed"),
+    *of("one", ("another status", "3 passed, 2 failed", "0 failed\n", "0 failed\nexit 2\n")),
+    *of("two", ("a test that fails", "3 passed, 1 failed", "exit 0", "exit 1"), ("a test that waits for ever", "3 passed, 1 failed", "exit 0", "sleep 600")),
+    *of(ALL, ("a program that is missing", "3 passed, 1 failed", "../../two", "../../three"), ("no tests", "0 passed, 1 failed", LIST, LIST.replace("LABELS some", "LABELS other")),
+        ("a list that can't be read", "0 passed, 1 failed", "enable_testing()", "enable_nothing()"))])
 
 # A crate of functions which the prover takes for proved unless they are wrong. That of `caller` needs that of `two`.
 SOURCE = "".join(f"pub fn {it}() {{\n    right {it};\n}}\n" for it in ("one", "two", "three", "caller"))
@@ -87,7 +69,7 @@ status=0
 for name in $(echo "$*" | grep -o '[-]-only [a-z]*' | cut -d' ' -f2); do
     state=proved
     grep -q "wrong $name;" src/lib.rt && [ "$(cat "$LOW")" = low ] && state="no proof: \`search\` did not prove it" status=1
-    [ $name = caller ] && grep -q "wrong two;" src/lib.rt && [ "$state" = proved ] && state="not proved; it calls \`two\`" status=1
+    [ $name = caller ] && grep -q "wrong two;" src/lib.rt && [ "$state" = proved ] && state="no proof: it calls \`two\`, which is not proved" status=1
     echo "fn crate::$name: $state"
 done
 echo only=1
@@ -101,26 +83,22 @@ esac
 """
 LOW = "crates/low/out/rlib/low.rlib/format"
 EDITS = "crates/crate/wrong.edits"
+BESIDE = "out/refused-beside"
 ENTRIES = "".join(f"{kind} wrong_{it} in {file}: It is wrong.\n    right {it}; ==> wrong {it};\n" for kind, it, file in (
     ("gate", "one", "src/lib.rt"), ("gate", "two", "src/lib.rt"), ("prover", "caller", "src/lib.rt"), ("tests", "three", "crates/crate/src/lib.rt")))
-# Of as many others as three gates try, each is tried by one of three commits that follow one another.
+# Of as many others as three gates try, each is tried by one of three trees whose hashes follow one another.
 MANY = "".join(f"prover more_{it} in src/lib.rt: It is wrong.\n    right caller; ==> wrong caller; // {it}\n" for it in range(50))
-SETS = f"export XDG_CACHE_HOME=$PWD/kept PATH=$PWD/bin:$PATH TOP=$PWD LOW=$PWD/{LOW}\n"
+SETS = f"export PATH=$PWD/bin:$PATH TOP=$PWD LOW=$PWD/{LOW}\n"
 TREE = {
-    "crates.txt": "low: std\ncrate: low std\n", "crates/crate/src/lib.rt": SOURCE, EDITS: ENTRIES, LOW: "low\n", "bin/rt": RT, "kit/KIT-ID": "kit\n",
-    "kit/bin/rattle": RATTLE, "bin/git": '#!/bin/sh\necho "${COMMIT:-00000000}"\n', "try": f"#!/bin/sh\n{SETS}exec tools/edits.py \"$@\"\n",
-    "gates": "#!/bin/sh\nfor it in 0 1 2; do\n    rm -rf kept\n    COMMIT=0000000$it ./try gate || exit 1\ndone\n",
+    BESIDE: "", "crates.txt": "low: std\ncrate: low std\n", "crates/crate/src/lib.rt": SOURCE, EDITS: ENTRIES, LOW: "low\n", "bin/rt": RT, "kit/KIT-ID": "kit\n",
+    "kit/bin/rattle": RATTLE, "bin/git": '#!/bin/sh\necho "${HASH:-00000000}"\n', "try": f"#!/bin/sh\n{SETS}exec tools/edits.py \"$@\"\n",
+    "gates": "#!/bin/sh\nfor it in 0 1 2; do\n    HASH=0000000$it ./try gate || exit 1\ndone\n",
 }
 TRY = ["./try", "crate"]
 
 
-def later(name, said, change):
-    """What is changed after a run that kept its refusals, and is found by the next one."""
-    return Fault(name, said, command=["sh", "-c", f"./try crate >/dev/null || exit 0\n{change}\nexec ./try crate"])
-
-
 ONE = "right one; ==> wrong one;"
-SAMPLER = Case("edits", ["edits.py", "contracts.py", "kit.py", "parts.py"], TREE, TRY, [
+SAMPLER = Case("edits", ["edits.py", "wrong.py", "contracts.py", "kit.py", "checks.py"], TREE, TRY, [
     *of(EDITS, ("a wrong body that is proved", "wrong_one: NOT REFUSED", ONE, "right one; ==> right one; // still"),
         ("one that is proved beside a wrong one that it calls", "wrong_caller: NOT REFUSED", "==> wrong caller;", "==> right caller; // still"),
         ("a wrong body that no test refuses", "NOT REFUSED: all tests pass", "==> wrong three;", "==> right three; // still"),
@@ -130,9 +108,9 @@ SAMPLER = Case("edits", ["edits.py", "contracts.py", "kit.py", "parts.py"], TREE
         ("a check that is killed", "NOT TRIED", "echo only=1", "kill -KILL $$"),
         ("a proof that names what is gone", "only because a proof names", 'state="no proof: \\`search\\` did not prove it"', 'state="not proved"')),
     *of("bin/rt", ("tests that are cut off", "NOT TRIED", "test t::three FAILED", "cut off")),
-    later("a refusal over another library", "wrong_one: NOT REFUSED", f"echo strong >{LOW}"),
-    later("a refusal by another kit", "wrong_one: NOT REFUSED", f"echo other >kit/KIT-ID; echo strong >{LOW}"),
-    later("a refusal of another body", "wrong_one: NOT REFUSED", f"sed -i 's/{ONE}/right one; ==> right one; \\/\\/ still/' {EDITS}"),
+    Fault("an edit that was refused beside, and another that wasn't", "wrong_two: NOT REFUSED",
+          ((EDITS, "==> wrong two;", "==> right two; // still"), (BESIDE, "", "crate/wrong_one: refused: it is\ncrate/wrong_two: NOT REFUSED\n")), ["./try", "gate", "--beside"]),
+    Fault("one that was refused once, by hand", "wrong_one: NOT REFUSED", ((EDITS, ONE, "right one; ==> right one; // still"), (BESIDE, "", "crate/wrong_one: refused: it is\n")), ["./try", "gate"]),
     Fault("no edits", "0 passed, 1 failed", ((EDITS, ENTRIES, ""),), ["./try", "gate"])])
 SAMPLES = Case("samples of edits", SAMPLER.tools, {**TREE, EDITS: MANY}, ["./gates"], [
     *of(EDITS, *((f"other {it}, proved", f"more_{it}: NOT REFUSED", f"==> wrong caller; // {it}\n", f"==> right caller; // {it}\n") for it in (0, 20, 49)))])
@@ -143,7 +121,7 @@ DRIVER = '#!/bin/sh\nfor path; do :; done\nexec tools/other_registry.py <"$path"
 KIT = {"program": FOREIGN, "driver": DRIVER, "crates/registry_run/out/registry_run": FOREIGN, "empty/none": "",
        "run": "#!/bin/sh\ntools/conformance.py write kit --scripts 4 --lines 40 >/dev/null && exec tools/conformance.py run \"${1:-kit}\" ./program\n",
        "without": "#!/bin/sh\ntools/conformance.py write kit --scripts 4 --lines 40 >/dev/null; rm kit/0002.report; exec tools/conformance.py run kit ./program\n"}
-TOOLS = ["conformance.py", "engines.py", "other_registry.py", "parts.py"]
+TOOLS = ["conformance.py", "engines.py", "other_registry.py", "checks.py"]
 CONFORMANCE = Case("conformance run", TOOLS, KIT, ["./run"], [
     *of("program", ("a program that stops in the middle of a report", "0000.txt: line 21 is '(the end)'", "exec tools/other_registry.py", "tools/other_registry.py | head -n 20"),
         ("one with a wrong status", "0000.txt: status 3", "exec tools/other_registry.py", "tools/other_registry.py; exit 3")),
@@ -154,7 +132,7 @@ DRIVEN = Case("conformance test", TOOLS, KIT, ["sh", "-c", f"sed -i '{FEW}' tool
     *of("driver", ("a driver that is wrong", "FAILED  ./driver prints each report", "exec tools/other_registry.py", "tools/other_registry.py newest-slot"),
         ("one that ends with another status", "FAILED  ./driver prints each report", "exec tools/other_registry.py <\"$path\"", "tools/other_registry.py <\"$path\"; exit 1")),
     *of("tools/conformance.py", ("a rule that leaves out all scripts", "FAILED  ./driver runs most scripts", "if driver and (driver.ended or", "if True or (driver.ended or"))])
-CASES = (PARTS, ENDING, SHELLS, SAMPLER, SAMPLES, CONFORMANCE, DRIVEN)
+CASES = (GATE, RUNS, SAMPLER, SAMPLES, CONFORMANCE, DRIVEN)
 
 
 def write(tree, path, text):

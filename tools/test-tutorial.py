@@ -13,7 +13,7 @@ import subprocess
 import sys
 
 from engines import MOST_SECONDS
-from parts import ROOT, counted
+from checks import ROOT, counted
 
 STEP = re.compile(r"^```sh\n(.*?)^```\n```text\n(.*?)^```$", re.MULTILINE | re.DOTALL)
 THREAD = re.compile(r"\bthread \d+")

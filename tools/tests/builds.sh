@@ -1,12 +1,8 @@
 #!/usr/bin/env bash
-# Builds clients as users do, and runs them: by gcc and clang, with -O3, link-time optimization, -static-pie and control-flow protection, over musl, as
-# C++20 and by a header unit. What must not be built is refused, and the reason is named. It needs out/libkupaldiz_proved.a; the last line is 'N passed, M failed'.
-# shellcheck source=tools/checks.sh
-. "$(dirname "$0")/checks.sh"
+# The tests of builds.cmake: what users build over the archive.
+. "$(dirname "$0")/common.sh"
 archive=out/libkupaldiz_proved.a
 include=$PWD/crates/registry_c/include
-need "$archive" "tools/build-archive.sh proves and builds it"
-tools/call-headers.py make
 
 # built NAME COMMAND..: the program of that name, compiled with the modules of kupaldiz_waiting.h by this command, over the archive.
 built() {
@@ -51,40 +47,13 @@ PROGRAM
 
 # refused TEXT COMMAND..: the header isn't compiled by this command, and the error says this.
 refused() {
-    local text=$1
-    shift
     echo '#include "kupaldiz.h"' >"$room/header.c"
-    ! "$@" -I"$include" -fsyntax-only "$room/header.c" >"$log.said" 2>&1 && grep "$text" "$log.said"
+    catches "$1" "${@:2}" -I"$include" -fsyntax-only "$room/header.c"
 }
 
 # The archive has no landing pads. A linker that is asked to require them names it.
 landing_pads_are_refused() {
-    ! built smallest gcc -std=c11 -fcf-protection=full -Wl,-z,shstk,-z,cet-report=error >"$log.said" 2>&1 && grep 'kupaldiz.o.*missing IBT property' "$log.said"
+    catches 'kupaldiz.o.*missing IBT property' built smallest gcc -std=c11 -fcf-protection=full -Wl,-z,shstk,-z,cet-report=error
 }
 
-for compiler in gcc clang; do
-    command -v "$compiler" >/dev/null || continue
-    for words in -O0 -O3 "-O2 -static-pie -fPIE" "-O2 -static" "-O2 -fcf-protection=full" "-O2 -fsanitize=undefined -fno-sanitize-recover=all"; do
-        # shellcheck disable=SC2086
-        check "$compiler $words" runs "$compiler" -std=c11 $words
-    done
-    check "$compiler, the checking build" runs "$compiler" -std=c11 -O2 -DKUPALDIZ_CHECK c/src/check.c
-done
-check "gcc -O3 -flto" runs gcc -std=gnu17 -O3 -flto
-if command -v ld.lld >/dev/null; then
-    check "clang -O3 -flto=thin" runs clang -std=gnu17 -O3 -flto=thin -fuse-ld=lld
-fi
-if command -v musl-gcc >/dev/null; then
-    check "musl-gcc -static" runs_over_musl -std=c11 -O2 -static
-    check "musl-gcc -static, the checking build" runs musl-gcc -std=c11 -O2 -static -DKUPALDIZ_CHECK c/src/check.c
-fi
-check "g++ -std=c++20" runs_as_cxx g++
-! command -v clang++ >/dev/null || check "clang++ -std=c++20" runs_as_cxx clang++
-check "a header unit of C++20" runs_as_unit
-check "32 bits are refused" refused 'kupaldiz.h is for x86-64 and aarch64' gcc -m32 -ffreestanding
-check "pointers of 32 bits are refused" refused 'kupaldiz.h is for x86-64 and aarch64' gcc -mx32 -ffreestanding
-if command -v clang >/dev/null; then
-    check "the highest byte first is refused" refused 'kupaldiz.h is for x86-64 and aarch64' clang --target=powerpc64-linux-gnu -ffreestanding
-fi
-check "indirect branches that need landing pads are refused" landing_pads_are_refused
-finish
+"$@"
