@@ -2,7 +2,8 @@
 """Finds what the documents name and the tree doesn't have: links to files and headings, and names in
 backquotes. Also tables that a line cuts off, rows with too many cells or words in one, links whose
 text doesn't say where they lead, lines that are too long, our private words on a page for users
-(PRIVATE), and numbers that differ from docs/facts (tools/facts.py).
+(PRIVATE), numbers that differ from docs/facts (tools/facts.py), and tables that differ from the
+published runs (tools/figures.py).
 
     tools/check-docs.py            says what is wrong, and ends with 'N passed, M failed'
 
@@ -16,6 +17,7 @@ from fnmatch import fnmatch
 
 import errors
 import facts
+import figures
 from parts import ROOT, counted
 
 # Words in backquotes that no file of this repository has, by where they come from.
@@ -183,6 +185,8 @@ def main():
     checks = [(path, kind, found) for path in files for kind, found in checks_of(path, words)]
     if facts.FACTS in files:
         checks += [(path, "facts", [fault] if fault else []) for path, fault in facts.compared(filter(has_facts, files))]
+    if figures.PAGE in files:
+        checks.append((figures.PAGE, "figures", [fault] if (fault := figures.fault()) else []))
     if errors.PAGE in files:
         checks.append((errors.PAGE, "errors", [fault] if (fault := errors.fault()) else []))
     sys.exit(counted("\n".join(f"{path.relative_to(ROOT)}: {kind}: {line}" for line in found) for path, kind, found in checks))

@@ -6,11 +6,11 @@ place of the names in braces. Blanks, line ends and marks of Markdown don't coun
 import re
 import subprocess
 
+import figures
 from parts import ROOT
 
 FACTS = ROOT / "docs/facts"
 HEADER = "crates/registry_c/include/kupaldiz.h"
-RUN = "bench/runs/2026-12-01-fast.txt"
 LIMITS = "crates/registry_c/include/kupaldiz_limits.h"
 WORDS = "zero one two three four five six seven eight nine ten eleven twelve".split()
 NUMBER = rf"(\d+\w*|{'|'.join(WORDS)})"
@@ -38,10 +38,15 @@ def calls():
     return str(len(subprocess.run(command, cwd=ROOT, check=True, stdout=subprocess.PIPE).stdout.split()))
 
 
-def lookup(contender, operation="lookup"):
-    """The nanoseconds of an operation of that run, on one thread among eight entries."""
-    table = text_of(RUN).partition(f"\n{operation}, ns")[2].partition("\n\n")[0]
-    return str(round(float(re.search(rf"^{contender} +\S+ +(\S+)", table, re.M)[1])))
+def lookup(contender, operation="lookup", threads=1):
+    """The nanoseconds of an operation of the published run, among eight entries."""
+    numbers = figures.block(f"{operation}, ns")[contender]
+    return str(round(float(numbers[1 if threads == 1 else 4])))
+
+
+def aims(end):
+    """How many aims of the published run end so."""
+    return str(len(re.findall(rf", at (?:most|least) .*  {end}$", figures.text_of(figures.RUN), re.M)))
 
 
 def events():
@@ -66,6 +71,15 @@ SOURCES = {
     "crossbeam": lambda: lookup("crossbeam-epoch"),
     "arc_swap": lambda: lookup("arc-swap"),
     "copy": lambda: lookup("from-C", "look_up"),
+    "rust_read": lambda: lookup("from-Rust", "read"),
+    "rust_get": lambda: lookup("from-Rust", "get"),
+    "rust_copy": lambda: lookup("from-Rust", "look_up"),
+    "rwlock": lambda: lookup("pthread_rwlock", threads=4),
+    "mutex": lambda: lookup("pthread_mutex", threads=4),
+    "from_c_4": lambda: lookup("from-C", threads=4),
+    "aims_met": lambda: aims("met"),
+    "aims_in_part": lambda: aims(r"met \d+ of \d+"),
+    "aims_missed": lambda: aims("missed"),
 }
 
 
