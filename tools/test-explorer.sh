@@ -30,7 +30,7 @@ compares_outcomes() {
     grep -q ' have the same outcomes by 2954 schedules as by 296361; ' "$log.said"
 }
 
-# The table of the README says what was printed.
+# The table of CASES.md says what was printed.
 drivers_as_told() {
     "$out/plain/drivers" | "$folder/tests/told.py" drivers
 }
@@ -127,7 +127,7 @@ for way in plain sanitized; do
     counted "what it refuses, $way" "$out/$way/refusals"
     check "each name that a driver may use does what its page says, $way" "$out/$way/named"
 done
-counted "the seven drivers in every order, as the README says" drivers_as_told
+counted "the seven drivers in every order, as CASES.md says" drivers_as_told
 check "the example of the README, right and wrong, as it says" example_as_told
 check "a schedule again, by the line that is printed" replays_as_printed
 check "that line of a program with words" repeats_words
