@@ -58,7 +58,6 @@ def events():
 SOURCES = {
     "proved": exports,
     "calls": calls,
-    "in_c": lambda: str(int(calls()) - int(exports())),
     "slots": lambda: limit("KUPALDIZ_MOST_SLOTS"),
     "cpus": lambda: limit("KUPALDIZ_MOST_CPUS"),
     "changes": lambda: limit("KUPALDIZ_MOST_CHANGES"),
