@@ -68,8 +68,8 @@ MOST_CELLS, MOST_WORDS = 5, 10
 CELLS = re.compile(r"(?<!\\)\|")
 # A line that nothing can break.
 ONLY_CODE = re.compile(r"\s*`[^`]+`[.,:;]?")
-# Texts of a link that don't say where it leads.
-EMPTY_TEXTS = ("more", "here", "this", "link")
+# A link's text that doesn't say where it leads: such a word, or the name of a page's file.
+EMPTY_TEXT = re.compile(r"(?i:more|here|this|link|how|why|which|others?|another)|[A-Z]{3,}")
 
 
 def tracked():
@@ -167,7 +167,7 @@ def checks_of(path, words):
         strange = set(unknown(prose, words))
         yield "names", sorted(it for it in strange if name != EARLIER[0] or not EARLIER[1].fullmatch(it.rpartition(" ")[2]))
         yield "columns", list(too_long(without_code(text)))
-        yield "texts of links", [f"'{it}'" for it in TEXT.findall(prose) if it.lower() in EMPTY_TEXTS]
+        yield "texts of links", [f"'{it}'" for it in TEXT.findall(prose) if EMPTY_TEXT.fullmatch(it)]
         yield "tables", list(too_wide(without_code(text)))
     if is_one_of(name, USERS):
         yield "phrases", list(awkward(text, PRIVATE))
