@@ -49,12 +49,28 @@ def aims(end):
     return str(len(re.findall(rf", at (?:most|least) .*  {end}$", figures.text_of(figures.RUN), re.M)))
 
 
+def thousands(told, *patterns):
+    """How many thousand lines these files have: what is told, if it is right within one thousand."""
+    command = ["git", "-c", "safe.directory=*", "ls-files", "-z", "--", *patterns]
+    listed = subprocess.run(command, cwd=ROOT, check=True, stdout=subprocess.PIPE, text=True).stdout
+    lines = sum(text_of(it).count("\n") for it in listed.split("\0") if (ROOT / it).is_file())
+    return told if abs(lines - 1000 * int(told)) < 1000 else str(round(lines / 1000))
+
+
 def events():
     body = text_of("crates/protocol/src/event.rt").partition("pub enum Event {")[2].partition("\n}")[0]
     return str(len(re.findall(r"^    [A-Z]\w*\(", body, re.M)))
 
 
-# What the sources say of some of them.
+# The lines of these files, in thousands.
+LINES = {
+    "lines_src": "crates/*/src/*.rt",
+    "lines_specs": "crates/*/specs/*.antt",
+    "lines_proofs": "crates/*/proofs/*.antt",
+    "lines_c": "*.[ch]",
+    "lines_rust": "*.rs",
+}
+# What the sources say of others.
 SOURCES = {
     "proved": exports,
     "calls": calls,
@@ -118,9 +134,11 @@ def wrong_places(path, facts, forms):
 def compared(pages):
     """What is wrong with the file of facts, and with each page: where, and what."""
     facts, forms = read()
-    for name, source in SOURCES.items():
-        told, said = facts.get(name), source()
-        yield FACTS, "" if told == said else f"{name} = {told}, and the sources have {said}"
+    said = {name: source() for name, source in SOURCES.items()}
+    said.update((name, thousands(facts[name], files)) for name, files in LINES.items())
+    for name, number in said.items():
+        told = facts.get(name)
+        yield FACTS, "" if told == number else f"{name} = {told}, and the sources have {number}"
     met = set()
     for path in pages:
         found = list(wrong_places(path, facts, forms))
