@@ -2,7 +2,7 @@
 """Compares what is told of the explorer with what it has: told.py points|drivers; the last line is 'N passed, M failed'.
 
 `points`: the calls that the layer shows with those that have a point in the explorer. One without a point must be named here, with the reason.
-`drivers`: the README's table, with what was printed: the output of `drivers` at standard input.
+`drivers`: the table of CASES.md, with what was printed: the output of `drivers` at standard input.
 """
 import re
 import sys
@@ -36,7 +36,7 @@ def points():
 
 def told():
     """The rows of the table, without what the threads do."""
-    text = (EXPLORER / "README.md").read_text()
+    text = (EXPLORER / "CASES.md").read_text()
     lines = text[text.index("| Case |") :].split("\n\n")[0].splitlines()[2:]
     cells = [[cell.strip().replace(",", "") for cell in line.strip("|").split("|")] for line in lines]
     return {(row[0], *row[2:]) for row in cells}

@@ -29,7 +29,7 @@ test("the seven drivers in every order, sanitized" NEEDS explorer-sanitized RUNS
 test("the same with sanitizers, for six seconds" NEEDS explorer-sanitized RUNS out/explorer/sanitized/outcomes for 6 100000)
 list(APPEND NEEDED explorer-plain)
 set(BUILT out/explorer/plain)
-test("the seven drivers in every order, as the README says" COUNTED ${FUNCTIONS} drivers_as_told)
+test("the seven drivers in every order, as CASES.md says" COUNTED ${FUNCTIONS} drivers_as_told)
 test("the example of the README, right and wrong, as it says" SETS_UP explorer-example RUNS ${FUNCTIONS} example_as_told)
 test("a schedule again, by the line that is printed" NEEDS explorer-example RUNS ${FUNCTIONS} replays_as_printed)
 test("that line of a program with words" NEEDS explorer-example RUNS ${FUNCTIONS} repeats_words)

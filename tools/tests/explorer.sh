@@ -28,7 +28,7 @@ compares_outcomes() {
     grep -q ' have the same outcomes by 2954 schedules as by 297101; ' "$said"
 }
 
-# The table of the README says what was printed.
+# The table of CASES.md says what was printed.
 drivers_as_told() {
     "$built/drivers" | "$folder/tests/told.py" drivers
 }
