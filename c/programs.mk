@@ -1,7 +1,7 @@
 # The programs in C. `make` builds them in out/, beside libkupaldiz_proved.a; `make check` runs them briefly; `make sanitized` builds them once more, so that
 # the compiler's checks of addresses and of undefined behaviour are in the client's code.
 
-INCLUDES = -Ic/include -Ic/examples -Ic/tests -I$(HEADER)
+INCLUDES = -Ic/include -I$(MADE_HEADERS) -Ic/examples -Ic/tests -I$(HEADER)
 WRAP = -Wl,--wrap=malloc,--wrap=realloc,--wrap=free
 
 # The modules of kupaldiz_waiting.h, with what they share.
@@ -82,7 +82,7 @@ $(SANITIZED:%=$(OUT)/sanitized-%): $(OUT)/sanitized-%: %.c
 $(addprefix $(OUT)/sanitized-,shared forwarder device_switch $(WAITING_SANITIZED)): $(WAITING)
 
 # What is C of the archive is compiled with the test that sees it. It comes first, so the archive's own isn't called.
-$(OUT)/sanitized-names: c/src/strings.c c/src/texts.h
+$(OUT)/sanitized-names: c/src/strings.c $(MADE_HEADERS)/texts.h
 $(OUT)/sanitized-history: c/tests/dice.h c/tests/wrapped_heap.h
 $(OUT)/sanitized-history: CPPFLAGS += -DHISTORY_BRIEFLY
 $(OUT)/sanitized-names: LINK = -Wl,-z,muldefs

@@ -6,11 +6,11 @@ FLAGS_kupaldiz-explorer = -DKUPALDIZ_EXPLORER -I$${includedir} -I$${includedir}/
 EXPLORER_SONAME = libkupaldiz_explorer.so.$(ABI)
 EXPLORER_SHARED = libkupaldiz_explorer.so.$(VERSION)
 EXPLORER_FOLDER = $(OUT)/installed-explorer
-EXPLORER_HEADERS = explorer/explorer.h $(wildcard explorer/src/*.h netbsd/src/*.h) $(addprefix netbsd/include/,$(NETBSD_HEADERS))
+EXPLORER_HEADERS = explorer/explorer.h $(wildcard explorer/src/*.h netbsd/src/*.h) $(addprefix $(LAYER_HEADERS)/,$(NETBSD_HEADERS))
 EXPLORER_LAYER = $(filter-out $(EXPLORER_INSTEAD:%=netbsd/src/%.c),$(wildcard netbsd/src/*.c))
 EXPLORER_OWN = $(wildcard explorer/src/*.c)
 EXPLORER_OBJECTS = $(EXPLORER_OWN:explorer/src/%.c=$(EXPLORER_FOLDER)/explorer-%.o) $(EXPLORER_LAYER:netbsd/src/%.c=$(EXPLORER_FOLDER)/layer-%.o)
-EXPLORER_COMPILED = $(CPPFLAGS) $(filter-out -flto%,$(CFLAGS)) $(EXPLORER_STRICT) -fPIC -Iexplorer -Inetbsd/include -Inetbsd/src
+EXPLORER_COMPILED = $(CPPFLAGS) $(filter-out -flto%,$(CFLAGS)) $(EXPLORER_STRICT) -fPIC -Iexplorer -I$(LAYER_HEADERS) -Inetbsd/src
 EXPLORER_LINKED = $(filter-out $(LINKED_$(PROCESSOR)),$(LINKED))
 EXPLORER_MADE_BY = packaging/places.mk packaging/install.mk explorer/install.mk
 

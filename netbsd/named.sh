@@ -1,7 +1,14 @@
 #!/bin/sh
-# Writes the headers of include/sys that only give a header of include/kupaldiz the names that the pages include. One that is there stays. And of kupaldiz
-# names.h, from netbsd.map, and places.h, from the list below. Git keeps none of them.
-cd "$(dirname "$0")/include/sys" || exit
+# Lays out the headers of the pages' names in out/made/netbsd: links to those of include, and what is
+# made. That is in sys each header that only gives one of kupaldiz the name that the pages include (one
+# that is there stays), and in kupaldiz names.h, from netbsd.map, and places.h, from the list below.
+cd "$(dirname "$0")" || exit
+here=$PWD made=$PWD/../out/made/netbsd
+mkdir -p "$made/kupaldiz" "$made/sys" "$made/net" && cd include || exit
+for header in */*.h; do
+    [ "$made/$header" -ef "$header" ] || { ln -s "$here/include/$header" "$made/$header.$$" && mv -f "$made/$header.$$" "$made/$header"; }
+done
+cd "$made/sys" || exit
 while read -r header names; do
     for name in $names; do
         [ -f "$name.h" ] || {
@@ -27,7 +34,7 @@ is_made() {
     [ -f "$1" ] && [ -z "$(find "$2" -newer "$1")" ]
 }
 
-cd ../kupaldiz 2>/dev/null || exit
+cd ../kupaldiz || exit
 # By header: the calls that note a place. Their bodies begin with begin_call, or call one whose body does so by its plain name.
 write_places() {
     printf '/* places.h - macros of the names of a header'"'"'s calls, which note where each is made */\n#ifndef KUPALDIZ_WITHOUT_PLACES\n'
@@ -41,7 +48,7 @@ write_places() {
     echo '#endif'
 }
 
-is_made places.h ../../named.sh || { write_places >"places.$$" && mv "places.$$" places.h; } <<'PLACED'
+is_made places.h "$here/named.sh" || { write_places >"places.$$" && mv "places.$$" places.h; } <<'PLACED'
 cpu kupaldiz_bind kupaldiz_unbind curlwp_bindx kpreempt_enable
 kernel panic kpause kthread_exit kthread_join copyin copyout tsleep mtsleep wakeup kupaldiz_kernel_lock kupaldiz_kernel_unlock kupaldiz_set_hz
 kernel kupaldiz_run_once kthread_create
@@ -61,7 +68,7 @@ workqueue workqueue_create workqueue_enqueue workqueue_wait workqueue_destroy
 PLACED
 
 # The calls of the map, except those that are named so in C, too.
-is_made names.h ../../netbsd.map && exit
+is_made names.h "$here/netbsd.map" && exit
 {
     cat <<'HEAD'
 /*
@@ -79,7 +86,7 @@ is_made names.h ../../netbsd.map && exit
 
 HEAD
     grep -oh '\bkupaldiz_[a-z0-9_]*' [!n]*.h | sort -u >"names.$$.own"
-    sed -n 's/^\t\t\(kupaldiz_[a-z0-9_]*\);$/\1/p' ../../netbsd.map | grep -vxF -f "names.$$.own" | sed 's/^kupaldiz_\(.*\)/#pragma redefine_extname \1 &/'
+    sed -n 's/^\t\t\(kupaldiz_[a-z0-9_]*\);$/\1/p' "$here/netbsd.map" | grep -vxF -f "names.$$.own" | sed 's/^kupaldiz_\(.*\)/#pragma redefine_extname \1 &/'
     printf '\n#endif\n'
 } >"names.$$" && mv "names.$$" names.h
 rm -f "names.$$.own"

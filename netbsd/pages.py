@@ -1,7 +1,12 @@
 #!/usr/bin/env python3
-"""The manual pages kupaldiz_NAME(3), made from the headers in include/kupaldiz/ beside this file: `pages.py write` writes them to ../man, where git keeps none; `pages.py check` looks
-for the entry of each call and of each macro with parameters. The program that kupaldiz_netbsd(7) shows, after a line that names its file and without its first
-comment, the one writes and the other compares."""
+"""The manual pages kupaldiz_NAME(3), made from the headers in include/kupaldiz/ beside this file.
+
+    pages.py make      writes them to ../out/made/man
+    pages.py write     writes into man/kupaldiz_netbsd.7 the program that it shows, without its first
+                       comment, after a line that names the program's file
+    pages.py check     compares that program, and looks for the entry of each call and of each macro
+                       with parameters
+"""
 import os
 import re
 import sys
@@ -10,7 +15,7 @@ from pathlib import Path
 
 HERE = Path(__file__).resolve().parent
 HEADERS_AT = HERE / "include/kupaldiz"
-PAGES = HERE.parent / "man"
+PAGES = HERE.parent / "out/made/man"
 DATE = "November 27, 2026"
 # Header, the names under which it is included, and what its page is about.
 HEADERS = {
@@ -28,7 +33,7 @@ HEADERS = {
 # Headers without a page: what each of the others includes.
 UNPAGED = {"names", "places", "sys_types"}
 # The page that isn't made from a header, and where it shows a program.
-OVERVIEW = PAGES / "kupaldiz_netbsd.7"
+OVERVIEW = HERE.parent / "man/kupaldiz_netbsd.7"
 SHOWN = re.compile(r'(?<=^\.\\" netbsd/)(\S+)(\n\.Bd -literal\n).*?(?=^\.Ed$)', re.M | re.S)
 COMMENT = re.compile(r"/\*(.*?)\*/", re.S)
 PROTOTYPE = re.compile(r"^(?:static inline )?((?:[a-z_0-9]+ )+\**)([a-z_0-9]+)\((.*?)\)(?: __attribute__.*)?(?:;| \{.*)?$")
@@ -199,14 +204,16 @@ def put(page, text):
 
 
 def main():
-    if sys.argv[1:] == ["write"]:
+    if sys.argv[1:] == ["make"]:
+        PAGES.mkdir(parents=True, exist_ok=True)
         for name in HEADERS:
             put(PAGES / f"kupaldiz_{name}.3", page_of(name))
+    elif sys.argv[1:] == ["write"]:
         put(OVERVIEW, with_program(OVERVIEW.read_text())[0])
     elif sys.argv[1:] == ["check"]:
         sys.exit(check() != 0)
     else:
-        sys.exit("usage: pages.py write|check")
+        sys.exit("usage: pages.py make|write|check")
 
 
 main()

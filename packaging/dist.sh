@@ -88,6 +88,10 @@ lay() {
     mkdir -p "$to/docs"
     make -s pages
     cp -r Makefile c man netbsd explorer packaging "$to"
+    if [ -e tools/call-headers.py ]; then
+        cp out/made/c/*.h "$to/c/include"
+        cp out/made/man/*.3 "$to/man"
+    fi
     rm -rf "$to/packaging/debian"
     cp -r "$(first debian packaging/debian)" "$to/debian"
     cp packaging/INSTALL.md "$to/README.md"

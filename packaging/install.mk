@@ -46,24 +46,24 @@ NETBSD_SONAME = libkupaldiz_netbsd.so.$(ABI)
 NETBSD_SHARED = libkupaldiz_netbsd.so.$(VERSION)
 
 # What is installed beside the proved face, in the folder of headers itself. The pages' names have a folder of their own.
-C_HEADERS = kupaldiz_waiting.h kupaldiz_table.h kupaldiz_check.h kupaldiz_tsan.h
+C_HEADERS = $(addprefix c/include/,kupaldiz_waiting.h kupaldiz_table.h) $(addprefix $(MADE_HEADERS)/,kupaldiz_check.h kupaldiz_tsan.h)
 
 # The headers of the pages' names: those that the pages name, in sys and net, and what these are made of. What the layer is built from.
 NETBSD_FOLDERS = kupaldiz sys net
-NETBSD_HEADERS = $(patsubst netbsd/include/%,%,$(wildcard $(NETBSD_FOLDERS:%=netbsd/include/%/*.h)))
+NETBSD_HEADERS = $(patsubst $(LAYER_HEADERS)/%,%,$(wildcard $(NETBSD_FOLDERS:%=$(LAYER_HEADERS)/%/*.h)))
 NETBSD_OBJECTS = $(patsubst netbsd/src/%.c,$(OUT)/installed-netbsd/%.o,$(wildcard netbsd/src/*.c))
 
-# The pages that are made of headers: in a release they are.
+# The pages that are made of headers.
 pages:
-	$(if $(wildcard tools/header-pages.py),tools/header-pages.py make && netbsd/pages.py write)
+	$(if $(IN_REPOSITORY),tools/header-pages.py make && netbsd/pages.py make)
 
 # kupaldiz(3), kupaldiz_waiting(3) and kupaldiz_table(3), and the calls that each names at its head, each of which gets a page that leads there.
 PAGES = kupaldiz kupaldiz_waiting kupaldiz_table
-named_by = $(filter-out $(1),$(shell sed -n 's/^\.Nm \(kupaldiz_[a-z_]*\).*/\1/p' man/$(1).3 | sort -u))
+named_by = $(filter-out $(1),$(shell sed -n 's/^\.Nm \(kupaldiz_[a-z_]*\).*/\1/p' $(MADE_PAGES)/$(1).3 | sort -u))
 
 # The pages of the pages' names: each call that one of them names gets a page that leads there, except kupaldiz_cpu, whose name a page has.
-NETBSD_PAGES = $(filter-out $(PAGES),$(patsubst man/%.3,%,$(shell ls man/kupaldiz_*.3)))
-netbsd_named_by = $(filter-out $(1),$(shell sed -n 's/^\.Nm \([A-Za-z_0-9]*\).*/\1/p' man/$(1).3 | sort -u))
+NETBSD_PAGES = $(filter-out $(PAGES),$(patsubst $(MADE_PAGES)/%.3,%,$(shell ls $(MADE_PAGES)/kupaldiz_*.3)))
+netbsd_named_by = $(filter-out $(1),$(shell sed -n 's/^\.Nm \([A-Za-z_0-9]*\).*/\1/p' $(MADE_PAGES)/$(1).3 | sort -u))
 
 # What a library is compiled and linked with: no function has a frame above a page. A library of one object is joined without the compiler's link-time steps.
 COMPILED = $(STRICT) $(if $(LIMITS),,-Wframe-larger-than=4096) $(CPPFLAGS) $(filter-out -flto%,$(CFLAGS)) $(HARDENING) -fPIC -I$(HEADER)
@@ -98,7 +98,7 @@ $(OUT)/installed-check/check.o: c/src/check.c
 $(OUT)/installed-check/check.o: c/src/records.h
 $(CHECKED_OBJECTS) $(OUT)/installed-check/check.o: $(MADE_OF_CALLS) $(WAITING_MADE_OF) | $(OUT)
 	mkdir -p $(@D)
-	$(CC) $(COMPILED) -DKUPALDIZ_CHECK -Ic/include -c -o $@ $(filter %.c,$^)
+	$(CC) $(COMPILED) -DKUPALDIZ_CHECK -Ic/include -I$(MADE_HEADERS) -c -o $@ $(filter %.c,$^)
 
 $(OUT)/libkupaldiz_check.a: $(OUT)/installed-check/check.o $(CHECKED_OBJECTS)
 	rm -f $@
@@ -109,9 +109,9 @@ $(OUT)/$(SHARED): $(OUT)/libkupaldiz.a packaging/kupaldiz.map packaging/install.
 	$(CC) $(LINKED) -o $@ -Wl,-soname,$(SONAME) -Wl,--version-script=packaging/kupaldiz.map \
 	    -Wl,--whole-archive $(OUT)/libkupaldiz.a -Wl,--no-whole-archive -pthread
 
-$(NETBSD_OBJECTS): $(OUT)/installed-netbsd/%.o: netbsd/src/%.c netbsd/src/layer.h $(addprefix netbsd/include/,$(NETBSD_HEADERS)) packaging/places.mk packaging/install.mk
+$(NETBSD_OBJECTS): $(OUT)/installed-netbsd/%.o: netbsd/src/%.c netbsd/src/layer.h $(addprefix $(LAYER_HEADERS)/,$(NETBSD_HEADERS)) packaging/places.mk packaging/install.mk
 	mkdir -p $(OUT)/installed-netbsd
-	$(CC) $(COMPILED) -D_GNU_SOURCE -Inetbsd/include -c -o $@ $<
+	$(CC) $(COMPILED) -D_GNU_SOURCE -I$(LAYER_HEADERS) -c -o $@ $<
 
 # One object, from which the calls alone are seen: what the layer's parts name among them clashes with no name of a program.
 $(OUT)/libkupaldiz_netbsd.a: $(NETBSD_OBJECTS)
@@ -126,7 +126,7 @@ $(OUT)/$(NETBSD_SHARED): $(OUT)/libkupaldiz_netbsd.a netbsd/netbsd.map packaging
 
 # The public names: those of the headers, of the maps, and of what was built.
 symbols: library
-	NM=$(CROSS)nm packaging/symbols.sh $(HEADER) $(OUT) '$(BUILD)' $(VERSION)
+	NM=$(CROSS)nm packaging/symbols.sh $(HEADER) $(MADE_HEADERS) $(OUT) '$(BUILD)' $(VERSION)
 
 install: library pages install-examples
 	$(INSTALL) -d $(DESTDIR)$(PKGCONFIGDIR) $(DESTDIR)$(CMAKEDIR) $(NETBSD_FOLDERS:%=$(DESTDIR)$(INCLUDEDIR)/kupaldiz/netbsd/%) \
@@ -136,12 +136,12 @@ install: library pages install-examples
 	$(INSTALL) -m 755 $(OUT)/$(SHARED) $(DESTDIR)$(LIBDIR)/$(SHARED)
 	ln -sf $(SHARED) $(DESTDIR)$(LIBDIR)/$(SONAME)
 	ln -sf $(SONAME) $(DESTDIR)$(LIBDIR)/libkupaldiz.so
-	$(INSTALL) -m 644 $(FACE) $(C_HEADERS:%=c/include/%) $(DESTDIR)$(INCLUDEDIR)/
+	$(INSTALL) -m 644 $(FACE) $(C_HEADERS) $(DESTDIR)$(INCLUDEDIR)/
 	$(INSTALL) -m 644 $(OUT)/libkupaldiz_netbsd.a $(DESTDIR)$(LIBDIR)/libkupaldiz_netbsd.a
 	$(INSTALL) -m 755 $(OUT)/$(NETBSD_SHARED) $(DESTDIR)$(LIBDIR)/$(NETBSD_SHARED)
 	ln -sf $(NETBSD_SHARED) $(DESTDIR)$(LIBDIR)/$(NETBSD_SONAME)
 	ln -sf $(NETBSD_SONAME) $(DESTDIR)$(LIBDIR)/libkupaldiz_netbsd.so
-	for header in $(NETBSD_HEADERS); do $(INSTALL) -m 644 netbsd/include/$$header $(DESTDIR)$(INCLUDEDIR)/kupaldiz/netbsd/$$header; done
+	for header in $(NETBSD_HEADERS); do $(INSTALL) -m 644 $(LAYER_HEADERS)/$$header $(DESTDIR)$(INCLUDEDIR)/kupaldiz/netbsd/$$header; done
 	$(call pc_of,kupaldiz)
 	$(call pc_of,kupaldiz-check)
 	$(call pc_of,kupaldiz-netbsd)
@@ -176,7 +176,7 @@ without_older: library
 
 # install_page PAGE,CALLS: a page, and for each call that it names a page of one line that leads to it.
 define install_page
-$(INSTALL) -m 644 man/$(1).3 $(DESTDIR)$(MANDIR)/man3/$(1).3
+$(INSTALL) -m 644 $(MADE_PAGES)/$(1).3 $(DESTDIR)$(MANDIR)/man3/$(1).3
 umask 022; for call in $(2); do echo ".so man3/$(1).3" >$(DESTDIR)$(MANDIR)/man3/$$call.3$(MANSUFFIX); done
 
 endef
@@ -194,7 +194,7 @@ uninstall: pages
 	rm -f $(addprefix $(DESTDIR)$(LIBDIR)/,libkupaldiz_netbsd.a $(NETBSD_SHARED) $(NETBSD_SONAME) libkupaldiz_netbsd.so pkgconfig/kupaldiz-netbsd.pc)
 	rm -f $(addprefix $(DESTDIR)$(CMAKEDIR)/,kupaldizConfig.cmake kupaldizConfigVersion.cmake)
 	rm -f $(addprefix $(DESTDIR)$(INCLUDEDIR)/kupaldiz/netbsd/,$(NETBSD_HEADERS))
-	rm -f $(addprefix $(DESTDIR)$(INCLUDEDIR)/,kupaldiz.h kupaldiz_limits.h $(C_HEADERS))
+	rm -f $(addprefix $(DESTDIR)$(INCLUDEDIR)/,kupaldiz.h kupaldiz_limits.h $(notdir $(C_HEADERS)))
 	rm -f $(addprefix $(DESTDIR)$(MANDIR)/man3/,$(foreach page,$(PAGES),$(page).3 $(addsuffix .3$(MANSUFFIX),$(call named_by,$(page)))))
 	rm -f $(addprefix $(DESTDIR)$(MANDIR)/man3/,$(foreach page,$(NETBSD_PAGES),$(page).3 $(addsuffix .3$(MANSUFFIX),$(call netbsd_named_by,$(page)))))
 	rm -f $(addprefix $(DESTDIR)$(MANDIR)/man7/,kupaldiz.7 kupaldiz_netbsd.7)

@@ -32,14 +32,19 @@ HEADER := $(firstword $(if $(LIMITS),$(OUT)) $(wildcard $(TOP)include) $(TOP)cra
 FACE = $(HEADER)/kupaldiz.h $(HEADER)/kupaldiz_limits.h
 ARCHIVE := $(firstword $(wildcard $(TOP)archive/$(PROCESSOR)/libkupaldiz_proved.a) $(OUT)/libkupaldiz_proved.a)
 
-# Headers of the pages' names that are made.
+# The headers of the pages' names, with those that are made.
+LAYER_HEADERS := $(TOP)out/made/netbsd
 $(shell $(TOP)netbsd/named.sh)
 
-# What is made of each call of the headers. In a release it is.
-MADE_OF_CALLS = $(addprefix $(TOP)c/,include/kupaldiz_check.h include/kupaldiz_tsan.h src/texts.h src/checked.h)
-ifneq ($(wildcard $(TOP)tools/call-headers.py),)
+# What is made of each call of the headers, and the manual pages that are made of headers. In a
+# release both are in the source.
+IN_REPOSITORY := $(wildcard $(TOP)tools/call-headers.py)
+MADE_HEADERS := $(TOP)$(if $(IN_REPOSITORY),out/made/c,c/include)
+MADE_PAGES := $(TOP)$(if $(IN_REPOSITORY),out/made/man,man)
+MADE_OF_CALLS = $(addprefix $(MADE_HEADERS)/,kupaldiz_check.h kupaldiz_tsan.h texts.h checked.h)
+ifneq ($(IN_REPOSITORY),)
 $(if $(shell find $(TOP)tools/call-headers.py $(TOP)tools/header-pages.py $(HEADER)/kupaldiz.h $(TOP)c/include/*.in $(TOP)c/include/kupaldiz_waiting.h $(TOP)c/include/kupaldiz_table.h \
-    -newer $(TOP)c/src/checked.h 2>&1),$(shell $(TOP)tools/call-headers.py make))
+    -newer $(MADE_HEADERS)/checked.h 2>&1),$(shell $(TOP)tools/call-headers.py make))
 endif
 
 # What the explorer is made of: for explorer/install.mk, which installs it, and for its Makefile, which tests it.

@@ -1,14 +1,14 @@
 #!/usr/bin/env bash
-# Compares the public names of the libraries: symbols.sh HEADERS OUT BUILD VERSION. The calls that the headers declare are those that the maps name, those that
+# Compares the public names of the libraries: symbols.sh HEADERS MADE OUT BUILD VERSION. The calls that the headers declare are those that the maps name, those that
 # the shared libraries show, in the same nodes, and those that the static ones do. Else it prints the difference, and its status is 1. `make symbols` calls it.
-# BUILD is what libkupaldiz.so has in its name for the limits of its build, or nothing.
+# MADE is the folder of kupaldiz_check.h, BUILD what libkupaldiz.so has in its name for the limits of its build, or nothing.
 set -uo pipefail
 cd "$(dirname "$0")/.." || exit
-if [ $# -ne 4 ]; then
-    echo "usage: symbols.sh HEADERS OUT BUILD VERSION" >&2
+if [ $# -ne 5 ]; then
+    echo "usage: symbols.sh HEADERS MADE OUT BUILD VERSION" >&2
     exit 2
 fi
-headers=$1 out=$2 suffix=$3.so.$4 layer_suffix=.so.$4
+headers=$1 made=$2 out=$3 suffix=$4.so.$5 layer_suffix=.so.$5
 for needed in "$headers/kupaldiz.h" "$out"/libkupaldiz{{,_netbsd}.a,{"$suffix",_netbsd"$layer_suffix"},_check.a}; do
     if [ ! -f "$needed" ]; then
         echo "symbols: there is no $needed: make library builds the libraries, make symbols calls this" >&2
@@ -68,9 +68,9 @@ same "the nodes of libkupaldiz.so" "$(in_nodes packaging/kupaldiz.map)" "$(shown
 same libkupaldiz.a "$calls" "$(static "$out/libkupaldiz.a")"
 # The checking build has each call that takes a handle of a registry, all of kupaldiz_waiting.h and none of kupaldiz_table.h; of those that wait it has what is within by other names.
 others='kupaldiz_(for_.*|name_.*|table_.*|id_of_name|strerror|version|limits)'
-same kupaldiz_check.h "$(grep -vxE "$others" <<<"$calls")" "$(sed -nE 's/^#define (kupaldiz_[a-z_]+)\(.*/\1/p' c/include/kupaldiz_check.h | grep -vx kupaldiz_check_interlock | sort)"
+same kupaldiz_check.h "$(grep -vxE "$others" <<<"$calls")" "$(sed -nE 's/^#define (kupaldiz_[a-z_]+)\(.*/\1/p' "$made/kupaldiz_check.h" | grep -vx kupaldiz_check_interlock | sort)"
 inner=$(packaging/calls-of.sh c/include/kupaldiz_waiting.h | sed 's/^kupaldiz_/kupaldiz_inner_/')
-same libkupaldiz_check.a "$({ packaging/calls-of.sh c/include/kupaldiz_check.h; echo "$inner"; } | sort)" "$(static "$out/libkupaldiz_check.a")"
+same libkupaldiz_check.a "$({ packaging/calls-of.sh "$made/kupaldiz_check.h"; echo "$inner"; } | sort)" "$(static "$out/libkupaldiz_check.a")"
 # With the pages' names the explorer has three calls more, its own, and those that the compiler makes with -fsanitize=thread.
 pages=$({ packaging/calls-of.sh netbsd/include/kupaldiz/*.h; echo 'kupaldiz_for_*'; } | with_prefix)
 calls=$(grep -vxE 'kupaldiz_(point|from|unseen)' <<<"$pages")

@@ -98,8 +98,8 @@ fn version() -> Vec<String> {
     parts
 }
 
-/// Writes limits.rs, which src/ffi.rs includes: the limits of the header as constants, the version,
-/// and the call whose name has two limits and the version.
+/// Writes limits.rs, which src/ffi.rs includes: the limits of the header as constants, and the call
+/// whose name has two of them and the version.
 fn write_limits(header: &Path) {
     println!("cargo:rerun-if-changed={}", header.display());
     let text =
@@ -130,7 +130,6 @@ fn write_limits(header: &Path) {
         header.display(),
         env::var("CARGO_PKG_VERSION").unwrap()
     );
-    limits += &format!("pub const VERSION: &str = \"{}.\";\n", version().join("."));
     let call = "pub fn kupaldiz_built_for(limits: *const Limits) -> u32;";
     limits += &format!("extern \"C\" {{\n    #[link_name = \"{built_for}\"]\n    {call}\n}}\n");
     let to = Path::new(&env::var_os("OUT_DIR").unwrap()).join("limits.rs");

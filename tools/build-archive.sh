@@ -79,7 +79,7 @@ tools/unwind-tables.py "$room/registry_c.o"
 tools/call-headers.py make
 parts=$(tools/proof-record.py parts)
 for part in $parts; do
-    "${tools}gcc" -std=c11 -O2 -fPIC -ffunction-sections -ffile-prefix-map="$PWD"=. -I"$room/include" -c -o "$room/$part.o" "c/src/$part.c"
+    "${tools}gcc" -std=c11 -O2 -fPIC -ffunction-sections -ffile-prefix-map="$PWD"=. -I"$room/include" -Iout/made/c -c -o "$room/$part.o" "c/src/$part.c"
 done
 # shellcheck disable=SC2086
 (cd "$room" && "${tools}ld" -r -o whole.o registry_c.o ${parts// /.o }.o)

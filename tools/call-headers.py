@@ -1,9 +1,8 @@
 #!/usr/bin/env -S python3 -B
 """Makes what is of each call of kupaldiz.h, kupaldiz_waiting.h and kupaldiz_table.h, from these.
 
-    tools/call-headers.py make      writes c/include/kupaldiz_check.h and kupaldiz_tsan.h, from the
-                                    frames beside them that end in .in, and c/src/texts.h and
-                                    checked.h
+    tools/call-headers.py make      writes kupaldiz_check.h and kupaldiz_tsan.h, from their frames in
+                                    c/include, texts.h and checked.h; all in out/made/c
 
 Git keeps none of these. Each make makes them first, and so does a build of the archive. A line
 '@PART HEADER' of a frame stands for a part that is made of the header's calls:
@@ -226,9 +225,9 @@ def part(name, header):
     return "".join(f"{text}\n" for text in texts if text)
 
 
-def framed(path):
-    """A header that has a frame beside it."""
-    frame = (ROOT / f"{path}.in").read_text()
+def framed(name):
+    """A header that has a frame."""
+    frame = (ROOT / f"c/include/{name}.in").read_text()
     return re.sub(r"^@(\w+) (\S+)\n", lambda it: part(it[1], it[2]), frame, flags=re.M)
 
 
@@ -243,39 +242,40 @@ def functions(_):
     return "\n".join(part("functions", header) for header in HEADERS if header not in UNCHECKED)
 
 
-MADE = {"c/include/kupaldiz_check.h": framed, "c/include/kupaldiz_tsan.h": framed,
-        "c/src/texts.h": texts, "c/src/checked.h": functions}
+FOLDER = ROOT / "out/made/c"
+MADE = {"kupaldiz_check.h": framed, "kupaldiz_tsan.h": framed, "texts.h": texts, "checked.h": functions}
 # What they are made from.
 FROM = ("tools/call-headers.py", "tools/header-pages.py", *HEADERS.values(),
         "c/include/kupaldiz_check.h.in", "c/include/kupaldiz_tsan.h.in")
 
 
-def write(path):
+def write(name):
     """Writes a file that isn't so already, in one step: another process may read it."""
-    text = f"/* Made by tools/call-headers.py: don't edit it. */\n{MADE[path](path)}"
-    file = ROOT / path
+    text = f"/* Made by tools/call-headers.py: don't edit it. */\n{MADE[name](name)}"
+    file = FOLDER / name
     if not file.exists() or file.read_text() != text:
         new = file.with_suffix(f".{os.getpid()}")
         new.write_text(text)
         os.replace(new, file)
 
 
-def mark_new(path):
+def mark_new(file):
     """packaging/places.mk sees by this file whether all are new. If they are, its time stays: else
     each make would link the programs anew that are made of it, also while another process runs
     them."""
-    time = (ROOT / path).stat().st_mtime
+    time = file.stat().st_mtime
     if any((ROOT / it).stat().st_mtime > time for it in FROM):
-        os.utime(ROOT / path)
+        os.utime(file)
 
 
 def main(words):
     if words != ["make"]:
         print("usage: call-headers.py make", file=sys.stderr)
         return 2
-    for path in MADE:
-        write(path)
-    mark_new(path)
+    FOLDER.mkdir(parents=True, exist_ok=True)
+    for name in MADE:
+        write(name)
+    mark_new(FOLDER / "checked.h")
     return 0
 
 

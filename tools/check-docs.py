@@ -2,7 +2,8 @@
 """Finds what the documents name and the tree doesn't have: links to files and headings, and names in
 backquotes. Also tables that a line cuts off, rows with too many cells or words in one, links whose
 text doesn't say where they lead, lines that are too long, our private words on a page for users
-(PRIVATE), and numbers that differ from docs/facts (tools/facts.py).
+(PRIVATE), numbers that differ from docs/facts (tools/facts.py), and tables that differ from the
+published runs (tools/figures.py).
 
     tools/check-docs.py            says what is wrong, and ends with 'N passed, M failed'
 
@@ -16,6 +17,7 @@ from fnmatch import fnmatch
 
 import errors
 import facts
+import figures
 from checks import ROOT, counted
 
 # Words in backquotes that no file of this repository has, by where they come from.
@@ -60,14 +62,14 @@ PRIVATE = ((r"\b(?:seats?|ledgers?|deeds?|hears?|heard)\b", "no private word"),)
 USERS = ("README.md", "bench/README.md", "packaging/VERSIONS.md", "packaging/INSTALL.md", "docs/C.md", "c/include/*.h*",
          "man/*.7", "man/kupaldiz*.in", "netbsd/include/kupaldiz/*.h", "rust/README.md", "crates/registry_c/include/kupaldiz.h",
          "docs/CHOOSING.md", "docs/SCRIPTS.md", "docs/TUTORIAL-C.md", "docs/ERRORS.md", "docs/HOW-IT-WORKS.md", "docs/PROVED.md", "docs/RUST-RULES.md",
-         "docs/NETBSD.md", "docs/HOWTO-DRIVERS.md", "docs/HOWTO-RUST.md", "explorer/README.md")
+         "docs/NETBSD.md", "docs/HOWTO-DRIVERS.md", "docs/HOWTO-RUST.md", "explorer/README.md", "explorer/CASES.md")
 MOST_COLUMNS = 100
 MOST_CELLS, MOST_WORDS = 5, 10
 CELLS = re.compile(r"(?<!\\)\|")
 # A line that nothing can break.
 ONLY_CODE = re.compile(r"\s*`[^`]+`[.,:;]?")
-# Texts of a link that don't say where it leads.
-EMPTY_TEXTS = ("more", "here", "this", "link")
+# A link's text that doesn't say where it leads: such a word, or the name of a page's file.
+EMPTY_TEXT = re.compile(r"(?i:more|here|this|link|how|why|which|others?|another)|[A-Z]{3,}")
 
 
 def tracked():
@@ -165,7 +167,7 @@ def checks_of(path, words):
         strange = set(unknown(prose, words))
         yield "names", sorted(it for it in strange if name != EARLIER[0] or not EARLIER[1].fullmatch(it.rpartition(" ")[2]))
         yield "columns", list(too_long(without_code(text)))
-        yield "texts of links", [f"'{it}'" for it in TEXT.findall(prose) if it.lower() in EMPTY_TEXTS]
+        yield "texts of links", [f"'{it}'" for it in TEXT.findall(prose) if EMPTY_TEXT.fullmatch(it)]
         yield "tables", list(too_wide(without_code(text)))
     if is_one_of(name, USERS):
         yield "phrases", list(awkward(text, PRIVATE))
@@ -183,6 +185,8 @@ def main():
     checks = [(path, kind, found) for path in files for kind, found in checks_of(path, words)]
     if facts.FACTS in files:
         checks += [(path, "facts", [fault] if fault else []) for path, fault in facts.compared(filter(has_facts, files))]
+    if figures.PAGE in files:
+        checks.append((figures.PAGE, "figures", [fault] if (fault := figures.fault()) else []))
     if errors.PAGE in files:
         checks.append((errors.PAGE, "errors", [fault] if (fault := errors.fault()) else []))
     sys.exit(counted("\n".join(f"{path.relative_to(ROOT)}: {kind}: {line}" for line in found) for path, kind, found in checks))

@@ -6,11 +6,11 @@ place of the names in braces. Blanks, line ends and marks of Markdown don't coun
 import re
 import subprocess
 
+import figures
 from checks import ROOT
 
 FACTS = ROOT / "docs/facts"
 HEADER = "crates/registry_c/include/kupaldiz.h"
-RUN = "bench/runs/2026-12-01-fast.txt"
 LIMITS = "crates/registry_c/include/kupaldiz_limits.h"
 WORDS = "zero one two three four five six seven eight nine ten eleven twelve".split()
 NUMBER = rf"(\d+\w*|{'|'.join(WORDS)})"
@@ -38,10 +38,23 @@ def calls():
     return str(len(subprocess.run(command, cwd=ROOT, check=True, stdout=subprocess.PIPE).stdout.split()))
 
 
-def lookup(contender, operation="lookup"):
-    """The nanoseconds of an operation of that run, on one thread among eight entries."""
-    table = text_of(RUN).partition(f"\n{operation}, ns")[2].partition("\n\n")[0]
-    return str(round(float(re.search(rf"^{contender} +\S+ +(\S+)", table, re.M)[1])))
+def lookup(contender, operation="lookup", threads=1):
+    """The nanoseconds of an operation of the published run, among eight entries."""
+    numbers = figures.block(f"{operation}, ns")[contender]
+    return str(round(float(numbers[1 if threads == 1 else 4])))
+
+
+def aims(end):
+    """How many aims of the published run end so."""
+    return str(len(re.findall(rf", at (?:most|least) .*  {end}$", figures.text_of(figures.RUN), re.M)))
+
+
+def thousands(told, *patterns):
+    """How many thousand lines these files have: what is told, if it is right within one thousand."""
+    command = ["git", "-c", "safe.directory=*", "ls-files", "-z", "--", *patterns]
+    listed = subprocess.run(command, cwd=ROOT, check=True, stdout=subprocess.PIPE, text=True).stdout
+    lines = sum(text_of(it).count("\n") for it in listed.split("\0") if (ROOT / it).is_file())
+    return told if abs(lines - 1000 * int(told)) < 1000 else str(round(lines / 1000))
 
 
 def events():
@@ -49,11 +62,18 @@ def events():
     return str(len(re.findall(r"^    [A-Z]\w*\(", body, re.M)))
 
 
-# What the sources say of some of them.
+# The lines of these files, in thousands.
+LINES = {
+    "lines_src": "crates/*/src/*.rt",
+    "lines_specs": "crates/*/specs/*.antt",
+    "lines_proofs": "crates/*/proofs/*.antt",
+    "lines_c": "*.[ch]",
+    "lines_rust": "*.rs",
+}
+# What the sources say of others.
 SOURCES = {
     "proved": exports,
     "calls": calls,
-    "in_c": lambda: str(int(calls()) - int(exports())),
     "slots": lambda: limit("KUPALDIZ_MOST_SLOTS"),
     "cpus": lambda: limit("KUPALDIZ_MOST_CPUS"),
     "changes": lambda: limit("KUPALDIZ_MOST_CHANGES"),
@@ -66,6 +86,15 @@ SOURCES = {
     "crossbeam": lambda: lookup("crossbeam-epoch"),
     "arc_swap": lambda: lookup("arc-swap"),
     "copy": lambda: lookup("from-C", "look_up"),
+    "rust_read": lambda: lookup("from-Rust", "read"),
+    "rust_get": lambda: lookup("from-Rust", "get"),
+    "rust_copy": lambda: lookup("from-Rust", "look_up"),
+    "rwlock": lambda: lookup("pthread_rwlock", threads=4),
+    "mutex": lambda: lookup("pthread_mutex", threads=4),
+    "from_c_4": lambda: lookup("from-C", threads=4),
+    "aims_met": lambda: aims("met"),
+    "aims_in_part": lambda: aims(r"met \d+ of \d+"),
+    "aims_missed": lambda: aims("missed"),
 }
 
 
@@ -105,9 +134,11 @@ def wrong_places(path, facts, forms):
 def compared(pages):
     """What is wrong with the file of facts, and with each page: where, and what."""
     facts, forms = read()
-    for name, source in SOURCES.items():
-        told, said = facts.get(name), source()
-        yield FACTS, "" if told == said else f"{name} = {told}, and the sources have {said}"
+    said = {name: source() for name, source in SOURCES.items()}
+    said.update((name, thousands(facts[name], files)) for name, files in LINES.items())
+    for name, number in said.items():
+        told = facts.get(name)
+        yield FACTS, "" if told == number else f"{name} = {told}, and the sources have {number}"
     met = set()
     for path in pages:
         found = list(wrong_places(path, facts, forms))

@@ -1,7 +1,7 @@
 #!/usr/bin/env -S python3 -B
 """Makes the manual pages of the calls for C from their headers, which alone say what a call does.
 
-    tools/header-pages.py make      writes man/PAGE.3, which git doesn't keep, from man/PAGE.3.in and its header, for each page
+    tools/header-pages.py make      writes out/made/man/PAGE.3 from man/PAGE.3.in and its header, for each page
     tools/header-pages.py check     makes each and writes none; it ends with 'N passed, M failed'
 
 A page's frame, PAGE.3.in, is mdoc with lines that stand for parts of the header or of a program:
@@ -26,6 +26,7 @@ from checks import ROOT, counted
 PAGES = {"kupaldiz": "crates/registry_c/include/kupaldiz.h", "kupaldiz_waiting": "c/include/kupaldiz_waiting.h",
          "kupaldiz_table": "c/include/kupaldiz_table.h"}
 WIDTH = 80
+FOLDER = ROOT / "out/made/man"
 
 GROUP = re.compile(r"/\* ---- (.*?) ---- \*/")
 CALL = re.compile(r"/\*\n \* (kupaldiz_\w+) - ((?:(?!\*/).)*)\*/\n([^;{]*);", re.S)
@@ -206,7 +207,7 @@ def made(page):
 
 def write(page):
     """Writes a page that isn't so already, in one step: another process may read it."""
-    path, text = ROOT / f"man/{page}.3", made(page)
+    path, text = FOLDER / f"{page}.3", made(page)
     if not path.exists() or path.read_text() != text:
         path.with_suffix(f".{os.getpid()}").write_text(text)
         os.replace(path.with_suffix(f".{os.getpid()}"), path)
@@ -214,6 +215,7 @@ def write(page):
 
 def main(words):
     if words == ["make"]:
+        FOLDER.mkdir(parents=True, exist_ok=True)
         for page in PAGES:
             write(page)
         return 0

@@ -125,7 +125,7 @@ wanted() {
         "$prefix"/include/kupaldiz{{,_limits,_waiting,_table,_check,_tsan}.h,/explorer.h} "$prefix"/share/doc/kupaldiz/VERSIONS.md; do
         echo "f 644 $me $file"
     done
-    (cd "$top/netbsd/include" && find . -name '*.h') | sed "s|^\.|f 644 $me $prefix/include/kupaldiz/netbsd|"
+    (cd "$top/out/made/netbsd" && find . -name '*.h') | sed "s|^\.|f 644 $me $prefix/include/kupaldiz/netbsd|"
     (cd "$room/examples" && find . -type f) | sed "s|^\.|f 644 $me $prefix/share/doc/kupaldiz/examples|"
 }
 
@@ -156,10 +156,17 @@ holds_files() {
     diff <(wanted "$1" | sort) <(installed | sort)
 }
 
+# source_of PAGE: what it is installed from. A page that is made of a header is in out, and in a
+# release beside the others.
+source_of() {
+    local made=$top/out/made/man/$1
+    if [ -e "$made" ]; then echo "$made"; else echo "$top/man/$1"; fi
+}
+
 # The manual pages, and the names at the head of each of section 3, which lead to it.
 wanted_pages() {
     local page name
-    for page in "$top"/man/kupaldiz{,_*}.[37]; do
+    find "$top/man" "$top/out/made/man" -name 'kupaldiz*.[37]' 2>"$room/said" | while read -r page; do
         echo "${page##*/}"
         [[ $page = *.3 ]] || continue
         for name in $(sed -nE '/^\.Sh NAME/,/^\.Nd/s/^\.Nm ([A-Za-z_0-9]+).*/\1/p' "$page"); do
@@ -176,7 +183,7 @@ installed_pages() {
         if [ "$line" != "${line#.so man3/}" ]; then
             echo "${page##*/} -> ${line#.so man3/}"
         else
-            cmp "$top/man/${page##*/}" "$page" && echo "${page##*/}"
+            cmp "$(source_of "${page##*/}")" "$page" && echo "${page##*/}"
         fi
     done
 }
@@ -219,7 +226,7 @@ leaves_nothing() {
 copy_top() {
     local copy=$room/a\ copy
     mkdir -p "$copy/out" "$copy/crates/registry_c"
-    cp -r Makefile packaging c man netbsd explorer "$copy" || return
+    cp -r Makefile packaging c man netbsd explorer "$copy" && cp out/made/c/*.h "$copy/c/include" && cp out/made/man/*.3 "$copy/man" || return
     cp out/libkupaldiz_proved.a "$copy/out" && cp -r crates/registry_c/include "$copy/crates/registry_c"
     top=$copy header=$copy/$header
 }

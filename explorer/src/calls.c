@@ -48,6 +48,19 @@ void at_live(const char *call, const void *thing, size_t size)
 	check_live(call, thing, size);
 }
 
+/* A thing in memory of the code's own, which some call has initialised. */
+void check_made(const char *call, const void *thing, size_t size)
+{
+	check_live(call, thing, size);
+	note_use(thing);
+}
+
+void at_made(const char *call, const void *thing, size_t size)
+{
+	at_call(call);
+	check_made(call, thing, size);
+}
+
 void at_thing(const char *call, enum kind kind, const void *thing, size_t size, unsigned how)
 {
 	at_live(call, thing, size);
@@ -73,6 +86,12 @@ void track_made(const char *call, const void *thing, const void *pc)
 	struct thing *row = row_for(THINGS, (uintptr_t)thing);
 	row->made = (struct origin){call, NULL, pc};
 	row->must_end = true;
+}
+
+void track_init(const char *call, const void *thing, size_t size, const void *pc)
+{
+	note_init(call, thing, size, pc);
+	track_made(call, thing, pc);
 }
 
 void track_ended(const void *thing)
@@ -120,9 +139,11 @@ void check_none_left(void)
 }
 
 WRAPPED(void, mutex_init, (kmutex_t *mutex, kmutex_type_t type, int level), (mutex, type, level),
-    track_made(__func__, mutex, __builtin_return_address(0)))
-WRAPPED(void, cv_init, (kcondvar_t *cv, const char *name), (cv, name), track_made(__func__, cv, __builtin_return_address(0)))
-WRAPPED(void, rw_init, (krwlock_t *rw), (rw), track_made(__func__, rw, __builtin_return_address(0)))
+    track_init(__func__, mutex, sizeof(*mutex), __builtin_return_address(0)))
+WRAPPED(void, cv_init, (kcondvar_t *cv, const char *name), (cv, name),
+    track_init(__func__, cv, sizeof(*cv), __builtin_return_address(0)))
+WRAPPED(void, rw_init, (krwlock_t *rw), (rw),
+    track_init(__func__, rw, sizeof(*rw), __builtin_return_address(0)))
 
 static void track_wake(const char *call, const char *place, const void *cv, bool waited)
 {
@@ -156,7 +177,7 @@ bool can_take(const struct routine *me)
 static void at_enter(const char *call, kmutex_t *mutex)
 {
 	point(call, NULL, can_take, mutex);
-	check_live(call, mutex, sizeof(*mutex));
+	check_made(call, mutex, sizeof(*mutex));
 	struct routine *me = run.current;
 	if (steps_off(me, mutex))
 		return;
@@ -173,15 +194,18 @@ WRAPPED(void, mutex_spin_enter, (kmutex_t *mutex), (mutex), at_enter(__func__, m
 WRAPPED(void, mutex_exit, (kmutex_t *mutex), (mutex), LIVE(mutex))
 WRAPPED(void, mutex_spin_exit, (kmutex_t *mutex), (mutex), LIVE(mutex))
 WRAPPED(int, mutex_tryenter, (kmutex_t *mutex), (mutex), LIVE(mutex))
-WRAPPED(void, mutex_destroy, (kmutex_t *mutex), (mutex), AT(ON_LOCK, mutex, 0); track_ended(mutex))
+WRAPPED(void, mutex_destroy, (kmutex_t *mutex), (mutex), AT(ON_LOCK, mutex, WRITES); track_ended(mutex))
+/* These have no point. */
+WRAPPED(int, mutex_ownable, (const kmutex_t *mutex), (mutex), (void)here(__func__); check_made(__func__, mutex, 1); touch(ON_LOCK, mutex, 0, 0))
+WRAPPED(int, mutex_owned, (const kmutex_t *mutex), (mutex), (void)here(__func__); check_made(__func__, mutex, 1))
 WRAPPED(void, mutex_obj_hold, (kmutex_t *mutex), (mutex), AT(ON_LOCK, mutex, 0))
-WRAPPED(bool, mutex_obj_free, (kmutex_t *mutex), (mutex), AT(ON_LOCK, mutex, WRITES))
+WRAPPED(bool, mutex_obj_free, (kmutex_t *mutex), (mutex), AT(ON_LOCK, mutex, WRITES | ACQUIRES | RELEASES))
 
 /* A wait gives the lock back, and takes it again in the step in which the thread goes on. */
 static void at_cv_wait(const char *call, kcondvar_t *cv, kmutex_t *mutex)
 {
-	at_live(call, cv, sizeof(*cv));
-	check_live(call, mutex, sizeof(*mutex));
+	at_made(call, cv, sizeof(*cv));
+	check_made(call, mutex, sizeof(*mutex));
 	run.current->relock = mutex;
 }
 
@@ -197,7 +221,7 @@ ANSWERED(int, cv_timedwait_sig, (kcondvar_t *cv, kmutex_t *mutex, int ticks), (c
 
 static void at_wake(const char *call, kcondvar_t *cv)
 {
-	at_live(call, cv, sizeof(*cv));
+	at_made(call, cv, sizeof(*cv));
 	track_wake(call, run.current->place, cv, sleepq_has_waiter(NULL, cv));
 }
 
@@ -221,7 +245,7 @@ WRAPPED(bool, cv_is_valid, (kcondvar_t *cv), (cv), AT(ON_CV, cv, 0))
 WRAPPED(void, cv_destroy, (kcondvar_t *cv), (cv), AT(ON_CV, cv, WRITES); track_ended(cv))
 
 /* A thread that waits for an rwlock is in the lock's own queue. */
-AROUND(void, rw_enter, (krwlock_t *rw, const krw_t how), (rw, how), AT(ON_LOCK, rw, 0),
+AROUND(void, rw_enter, (krwlock_t *rw, const krw_t how), (rw, how), LIVE(rw),
     touch(ON_LOCK, rw, 0, WRITES); acquire_clock(ON_LOCK, rw, 0))
 ANSWERED(int, rw_tryenter, (krwlock_t *rw, const krw_t how), (rw, how), AT(ON_LOCK, rw, WRITES), if (answer) acquire_clock(ON_LOCK, rw, 0))
 WRAPPED(void, rw_exit, (krwlock_t *rw), (rw), AT(ON_LOCK, rw, WRITES); release_clock(ON_LOCK, rw, 0))
@@ -333,13 +357,6 @@ const struct routine *append_held(char *text, const void *count)
 
 enum { OF_SETUP = KUPALDIZ_CPUS };	/* what is touched of the setup's references, beside those of each CPU */
 
-static void at_count_acquire(const char *call, const struct localcount *lc)
-{
-	at_reference(call, lc, sizeof(*lc), WRITES);
-	if (run.current->number == 0)
-		touch(ON_REFERENCES, lc, OF_SETUP, WRITES);
-}
-
 static void at_count_release(const char *call, const struct localcount *lc)
 {
 	at_reference(call, lc, sizeof(*lc), WRITES);
@@ -349,15 +366,15 @@ static void at_count_release(const char *call, const struct localcount *lc)
 		row->astray |= row->held[0] == 0;
 	}
 	if (row->astray)
-		touch(ON_REFERENCES, lc, ANY, WRITES);
+		touch(ON_REFERENCES, lc, ANY, 0);
 }
 
 WRAPPED(void, localcount_init, (struct localcount *lc), (lc), AT(ON_TARGET, lc, WRITES); track_owner(__func__, lc))
 WRAPPED(void, localcount_fini, (struct localcount *lc), (lc), AT(ON_TARGET, lc, WRITES))
 AROUND(void, localcount_drain, (struct localcount *lc, kcondvar_t *cv, kmutex_t *interlock), (lc, cv, interlock),
-    AT(ON_TARGET, lc, WRITES); check_live(__func__, interlock, sizeof(*interlock)); run.current->target = lc; run.current->relock = interlock,
+    AT(ON_TARGET, lc, WRITES); check_made(__func__, interlock, sizeof(*interlock)); run.current->target = lc; run.current->relock = interlock,
     end_cv_wait(); run.current->target = NULL; acquire_clock(ON_REFERENCES, lc, 0))
-AROUND(void, localcount_acquire, (struct localcount *lc), (lc), at_count_acquire(__func__, lc), note_acquired(lc))
+AROUND(void, localcount_acquire, (struct localcount *lc), (lc), at_reference(__func__, lc, sizeof(*lc), WRITES), note_acquired(lc))
 AROUND(void, localcount_release, (struct localcount *lc, kcondvar_t *cv, kmutex_t *interlock), (lc, cv, interlock),
     at_count_release(__func__, lc); release_clock(ON_REFERENCES, lc, 0); note_released(lc), ++*releases_of(lc))
 WRAPPED(uint32_t, localcount_debug_refcnt, (const struct localcount *lc), (lc),

@@ -109,8 +109,8 @@ static void add_backtrack_point(unsigned earlier, unsigned later)
 	step->backtrack |= (can & own) != 0 ? own : can & (~can + 1);
 }
 
-/* Plans each thread at the earlier step: the later one's could go on before it, and not right after it. */
-static void add_all_backtrack_points(unsigned earlier)
+/* Plans each thread at the earlier step: the later one's could go on before it, and not right after it; or it has a fault, and nobody goes on after it. */
+void add_all_backtrack_points(unsigned earlier)
 {
 	struct step *step = &search->steps[earlier];
 	step->backtrack |= step->enabled & ~step->throttled;

@@ -332,13 +332,12 @@ extern struct scratch *scratch;
 	}
 
 /* A call with a thing whose size is known, and one that touches it. */
-#define LIVE(thing)		at_live(__func__, thing, sizeof(*(thing)))
-#define AT(kind, thing, how)	at_thing(__func__, kind, thing, sizeof(*(thing)), how)
+#define LIVE(thing)		at_made(__func__, thing, sizeof(*(thing)))
+#define AT(kind, thing, how)	(at_made(__func__, thing, sizeof(*(thing))), touch(kind, thing, 0, how))
 
 /* ---- What the parts call of one another, file by file. ---- */
 
 void map_stacks(void);
-bool is_on_stack(const struct routine *routine, const volatile void *at);
 struct routine *make_routine(const char *name, void (*body)(void *), void *arg, bool daemon);
 void switch_to(struct routine *routine);
 void first_point(struct routine *me);
@@ -360,12 +359,15 @@ void end_of_call(struct in_call *call);
 void at_call(const char *call);
 void at_thing(const char *call, enum kind kind, const void *thing, size_t size, unsigned how);
 void at_live(const char *call, const void *thing, size_t size);
+void at_made(const char *call, const void *thing, size_t size);
+void check_made(const char *call, const void *thing, size_t size);
 void at_cpu(const char *call);
 bool next_failure(void);
 void note_ending(struct routine *me, bool early);
 void write_failures(char *text, size_t room);
 bool read_failures(const char *text);
 void track_made(const char *call, const void *thing, const void *pc);
+void track_init(const char *call, const void *thing, size_t size, const void *pc);
 const char *place_made(const struct thing *thing);
 const struct routine *append_held(char *text, const void *count);
 void check_none_made(const char *call, const void *from, size_t size);
@@ -389,6 +391,7 @@ uint64_t *releases_of(const void *target);
 void sleep_until(int64_t time);
 void end_self(void);
 bool are_dependent(const struct set *one, const struct set *other);
+void add_all_backtrack_points(unsigned earlier);
 void find_races(unsigned at, unsigned upto);
 void find_races_of_disabled(unsigned thread, const struct set *set, unsigned upto);
 void release_clock(enum kind kind, const volatile void *address, unsigned cpu);
@@ -397,6 +400,8 @@ void inherit_clock(struct routine *made);
 void acquire_all_clocks(void);
 void access_atomically(const volatile void *address, size_t size, unsigned how, const char *place, const void *pc);
 void use_memory(const volatile void *address, size_t size, const struct use *use);
+void note_init(const char *call, const void *at, size_t size, const void *pc);
+void note_use(const void *at);
 void access_plainly(const volatile void *address, size_t size, bool writes, const void *pc);
 void check_own_calls(void);
 const char *place_of(const char *place, const void *pc);

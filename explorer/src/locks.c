@@ -201,6 +201,8 @@ void end_self(void)
 {
 	if (is_bound(kupaldiz_self))
 		touch(ON_BOUND, NULL, kupaldiz_self->cpu->info.ci_index, WRITES);
+	if (run.current->name == NULL)
+		run.current->name = kupaldiz_self->name;
 	end_of_thread(kupaldiz_self);
 }
 

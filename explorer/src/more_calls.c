@@ -31,7 +31,7 @@ WRAPPED(void, kmem_intr_free, (void *block, size_t size), (block, size), at_bloc
 static void at_pool(const char *call, const struct pool *pool, unsigned how)
 {
 	at_call(call);
-	check_live(call, pool, sizeof(*pool));
+	check_made(call, pool, sizeof(*pool));
 	touch_memory(&pool->pr_out, sizeof(pool->pr_out), how);
 }
 
@@ -40,6 +40,9 @@ static struct pool *pool_of(pool_cache_t cache)
 	return (struct pool *)(void *)cache;
 }
 
+/* This has no point. */
+WRAPPED(void, pool_init, (struct pool *pool, size_t size, unsigned align, unsigned offset, int flags, const char *name, struct pool_allocator *from, int level),
+    (pool, size, align, offset, flags, name, from, level), note_init(__func__, pool, sizeof(*pool), __builtin_return_address(0)))
 WRAPPED(void *, pool_get, (struct pool *pool, int flags), (pool, flags), at_pool(__func__, pool, 0))
 WRAPPED(void *, pool_cache_get, (pool_cache_t cache, int flags), (cache, flags),
     at_pool(__func__, pool_of(cache), WRITES); acquire_clock(ON_MEMORY, &pool_of(cache)->pr_out, 0))
@@ -65,8 +68,8 @@ static void at_cache_put(const char *call, const struct pool *pool, const void *
 WRAPPED(void, pool_cache_put, (pool_cache_t cache, void *object), (cache, object), at_cache_put(__func__, pool_of(cache), object))
 
 WRAPPED(void *, percpu_getref, (percpu_t *percpu), (percpu), at_cpu(__func__); check_live(__func__, percpu, 1))
-WRAPPED(void, percpu_putref, (percpu_t *percpu), (percpu), at_thing(__func__, ON_TARGET, percpu, 1, 0))
-WRAPPED(void, percpu_free, (percpu_t *percpu, size_t size), (percpu, size), at_thing(__func__, ON_TARGET, percpu, 1, WRITES))
+WRAPPED(void, percpu_putref, (percpu_t *percpu), (percpu), at_live(__func__, percpu, 1))
+WRAPPED(void, percpu_free, (percpu_t *percpu, size_t size), (percpu, size), at_live(__func__, percpu, 1))
 
 struct look {
 	const percpu_t *percpu;
@@ -78,7 +81,7 @@ struct look {
 static void look_at(void *own, void *of, struct cpu_info *cpu)
 {
 	const struct look *each = of;
-	at_thing("percpu_foreach", ON_TARGET, each->percpu, 1, 0);
+	at_live("percpu_foreach", each->percpu, 1);
 	each->look(own, each->arg, cpu);
 }
 
@@ -142,7 +145,8 @@ AROUND(void, percpu_foreach_xcall, (percpu_t *percpu, unsigned flags, percpu_cal
 LAYER(void, delay, (unsigned microseconds));
 
 /* The layer's own soft interrupt for callouts is never ended. */
-AROUND(void, callout_init, (callout_t *callout, unsigned flags), (callout, flags), track_made(__func__, callout, __builtin_return_address(0)); run.own_memory = true,
+AROUND(void, callout_init, (callout_t *callout, unsigned flags), (callout, flags),
+    track_init(__func__, callout, sizeof(*callout), __builtin_return_address(0)); run.own_memory = true,
     run.own_memory = false)
 WRAPPED(void, callout_destroy, (callout_t *callout), (callout), LIVE(callout); track_ended(callout))
 WRAPPED(void, callout_setfunc, (callout_t *callout, void (*body)(void *), void *arg), (callout, body, arg),
@@ -179,9 +183,25 @@ WRAPPED(int, copyoutstr, (const void *kernel, void *user, size_t length, size_t 
 
 /* ---- workqueue(9): a queue's thread is the layer's own. ---- */
 
-/* Memory with a work isn't given back before the work's function is called. */
+/* Memory with a work isn't given back before the work's function is called. A work is in one queue at a time, of which the layer sees only the own one. */
+static void at_enqueue(const char *call, const struct workqueue *queue, const struct work *work)
+{
+	at_live(call, queue, 1);
+	check_live(call, work, sizeof(*work));
+	touch(ON_TARGET, work, 0, WRITES);
+	const struct thing *row = row_with(THINGS, (uintptr_t)work);
+	if (row != NULL && row->must_end)
+		stop_at(call, run.current->place, "the work is enqueued already");
+}
+
+void explorer_dequeue(const struct work *work)
+{
+	touch(ON_TARGET, work, 0, WRITES);
+	track_ended(work);
+}
+
 AROUND(void, workqueue_enqueue, (struct workqueue *queue, struct work *work, struct cpu_info *cpu), (queue, work, cpu),
-    at_live(__func__, queue, 1); check_live(__func__, work, sizeof(*work)), track_made(__func__, work, __builtin_return_address(0)))
+    at_enqueue(__func__, queue, work), track_made(__func__, work, __builtin_return_address(0)))
 
 WRAPPED(void, workqueue_wait, (struct workqueue *queue, struct work *work), (queue, work),
     at_live(__func__, queue, 1))

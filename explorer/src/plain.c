@@ -18,8 +18,8 @@ static void check_ordered(const struct plain *old, const struct plain *now, cons
 {
 	if ((old->bytes & now->bytes) == 0 || (!old->use.writes && !now->use.writes) || (old->use.atomic && now->use.atomic) || is_before(old, me))
 		return;
-	fail("data race: thread \"%s\" %s at %s, and thread \"%s\" %s at %s", run.routines[old->thread].name, old->use.verb,
-	    place_of(old->use.place, old->use.pc), me->name, now->use.verb, place_of(now->use.place, now->use.pc));
+	fail("data race: thread \"%s\" %s at %s, and thread \"%s\" %s at %s", name_of_routine(&run.routines[old->thread]), old->use.verb,
+	    place_of(old->use.place, old->use.pc), name_of_routine(me), now->use.verb, place_of(now->use.place, now->use.pc));
 }
 
 /* Whether each use that races with the one races with the other, too, if that is unordered as well. */
@@ -64,20 +64,50 @@ void use_memory(const volatile void *address, size_t size, const struct use *use
 		    .use = *use});
 }
 
-/* With `racy` it is a point, which touches the memory. */
+/* Memory that the code has, and that a step uses plainly. With `racy` the step touches it. */
+static void use_plainly(const volatile void *address, size_t size, const struct use *use)
+{
+	check_usable(run.current, address, size, use);
+	if (options.racy)
+		touch_memory(address, size, use->writes ? WRITES : 0);
+	use_memory(address, size, use);
+}
+
+/* What a call of the layer reads or writes of the code's own memory. */
+void explorer_tell(const void *at, size_t size, bool writes)
+{
+	if (run.current != NULL)
+		use_plainly(at, size, &(struct use){.verb = writes ? "writes" : "reads", .place = kupaldiz_self->place, .writes = writes});
+}
+
+/* What a call initialises that other calls use: they must come after it. */
+void note_init(const char *call, const void *at, size_t size, const void *pc)
+{
+	if (run.current == NULL)
+		return;
+	if (options.racy)
+		at_call(call);
+	use_plainly(at, size, &(struct use){.verb = "initialises it", .pc = pc, .writes = true});
+}
+
+void note_use(const void *at)
+{
+	if (options.racy)
+		touch_memory(at, 1, 0);
+	use_memory(at, 1, &(struct use){.verb = "uses it", .place = run.current->place, .atomic = true});
+}
+
+/* With `racy` it is a point. */
 void access_plainly(const volatile void *address, size_t size, bool writes, const void *pc)
 {
 	struct routine *me = run.current;
 	const struct use use = {.verb = writes ? "writes" : "reads", .pc = pc, .writes = writes};
-	if (me == NULL || size == 0 || is_on_stack(me, address))
+	if (me == NULL || size == 0)
 		return;
 	if (options.racy) {
 		me->pc = pc;
 		point(writes ? "plain write" : "plain read", NULL, NULL, NULL);
 		me->pc = NULL;
 	}
-	check_usable(me, address, size, &use);
-	if (options.racy)
-		touch_memory(address, size, writes ? WRITES : 0);
-	use_memory(address, size, &use);
+	use_plainly(address, size, &use);
 }

@@ -47,11 +47,6 @@ void map_stacks(void)
 	}
 }
 
-bool is_on_stack(const struct routine *routine, const volatile void *at)
-{
-	return (uintptr_t)at - (uintptr_t)stack_of(routine->number) < STACK;
-}
-
 /* Leaves one stack, with what a call keeps: six registers, MXCSR and the control word of the x87. Goes on where another one was left. */
 void explorer_switch(void **left, void *to);
 __asm__(".text\n"

@@ -165,14 +165,14 @@ static struct set touched_by_guard(const struct routine *routine)
 	return set;
 }
 
-/* The run ends after its first `upto` steps, well or cut short: whoever is disabled then may race with one of them. */
-static void find_races_of_all_disabled(unsigned upto)
+/* The run ends after its first `upto` steps, well or cut short: whoever isn't enabled may race with one of them. */
+static void find_races_of_all_disabled(unsigned upto, uint32_t enabled)
 {
-	if (!clock_may_jump() && run.ticks < options.ticks)
+	if ((enabled & bit(CLOCK)) == 0 && run.ticks < options.ticks)
 		find_races_of_disabled(CLOCK, &ticking, upto);
 	for (const struct routine *routine = run.routines; routine < &run.routines[run.count]; routine++) {
 		const struct set set = touched_by_guard(routine);
-		if (set.count > 0 && !routine->ended && !is_enabled(routine))
+		if (set.count > 0 && !routine->ended && (enabled & bit(routine->number)) == 0)
 			find_races_of_disabled(routine->number, &set, upto);
 	}
 }
@@ -182,18 +182,21 @@ void find_races_at_end(void)
 	if (search->mode != REDUCED)
 		return;
 	find_races(run.step - 1, run.step - 1);
-	find_races_of_all_disabled(run.finish + 1);
+	find_races_of_all_disabled(run.finish + 1, enabled_now());
 }
 
-/* A fault ends each thread, and so its step changes places with none. Where nobody can go on, no step is at fault. */
+/* A fault ends each thread, and so its step changes places with none: whoever was enabled before it is planned there, and whoever it has enabled was disabled.
+ * Where nobody can go on, no step is at fault. */
 void find_races_of_fault(void)
 {
-	if (search->mode != REDUCED)
+	if (search->mode != REDUCED || run.step == 0)
 		return;
-	if (run.step > search->fresh && !search->stuck)
+	if (run.step > search->fresh && !search->stuck) {
 		search->steps[run.step - 1].set.full = true;
+		add_all_backtrack_points(run.step - 1);
+	}
 	find_races(run.step - 1, run.step - 1);
-	find_races_of_all_disabled(run.step);
+	find_races_of_all_disabled(run.step, search->stuck ? 0 : search->steps[run.step - 1].enabled);
 }
 
 /* What is tried at a new step, beginning with the thread that runs already. */
@@ -219,7 +222,7 @@ static unsigned choose_new(struct step *step, const struct step *before)
 		can &= bit(before->chosen);
 	if (can == 0) {
 		if (search->mode == REDUCED)
-			find_races_of_all_disabled(run.step);
+			find_races_of_all_disabled(run.step, enabled);
 		leave_run(CUT);
 	}
 	bool stays = before != NULL && (can & bit(before->chosen)) != 0;

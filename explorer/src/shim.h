@@ -25,6 +25,9 @@ bool explorer_fails(void);
 void explorer_may_end_early(bool signals);
 int explorer_last_ending(void);
 void track_ended(const void *thing);
+struct work;
+void explorer_dequeue(const struct work *work);
+void explorer_tell(const void *at, size_t size, bool writes);
 void explorer_hide(void *at);
 void explorer_unhide(void *at);
 void explorer_yield(void);
@@ -66,7 +69,9 @@ void explorer_abort(void) __attribute__((noreturn));
 #define FAILS()				explorer_fails()
 #define MAY_END_EARLY(signals)		explorer_may_end_early(signals)
 #define LAST_ENDING()			explorer_last_ending()
-#define DEQUEUED(work)			track_ended(work)
+#define DEQUEUED(work)			explorer_dequeue(work)
+#define TELL_READ(at, size)		explorer_tell(at, size, false)
+#define TELL_WRITE(at, size)		explorer_tell(at, size, true)
 
 #define HIDE(at, size)			explorer_hide(at)
 #define UNHIDE(at, size)		explorer_unhide(at)

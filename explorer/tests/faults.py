@@ -24,7 +24,6 @@ class Fault(NamedTuple):
     case: str
     name: str
     found: tuple    # by which run, and the switches and preemptions of its schedule
-    real: str       # the run of real threads that was wrong first
     line: str       # what the explorer says, as a pattern
     edits: list     # (before, after) pairs; each `before` is in the driver's file once
 
@@ -84,88 +83,88 @@ def without(text, *places):
 
 
 FAULTS = [
-    Fault("bridge", "bridge", "a perform forgotten", (27, 2, 1), "run 23,064", FREED, [(BRIDGE_END, without(BRIDGE_END, 1))]),
-    Fault("bridge", "bridge", "a link cleared before the perform", (1, 1, 0), "run 21", r"data race", [
+    Fault("bridge", "bridge", "a perform forgotten", (27, 2, 1), FREED, [(BRIDGE_END, without(BRIDGE_END, 1))]),
+    Fault("bridge", "bridge", "a link cleared before the perform", (1, 1, 0), r"data race", [
         (BRIDGE_END, BRIDGE_END.replace("	PSLIST_ENTRY_DESTROY(bif, bif_next);\n", "").replace(
             "	BRIDGE_PSZ_PERFORM(sc);\n", "	PSLIST_ENTRY_DESTROY(bif, bif_next);\n	BRIDGE_PSZ_PERFORM(sc);\n"))]),
-    Fault("bridge", "bridge", "a psref acquired after the section", (26, 2, 1), "run 43,490", FREED, [(BRIDGE_ACQUIRE, swapped(BRIDGE_ACQUIRE, 0, 1))]),
-    Fault("bridge", "bridge", "a free before the destroy", (1, 0, 0), "not in 100,000", FREED, [
+    Fault("bridge", "bridge", "a psref acquired after the section", (26, 2, 1), FREED, [(BRIDGE_ACQUIRE, swapped(BRIDGE_ACQUIRE, 0, 1))]),
+    Fault("bridge", "bridge", "a free before the destroy", (1, 0, 0), FREED, [
         (BRIDGE_END, without(BRIDGE_END, 6).replace("	psref_target_destroy", "	kmem_free(bif, sizeof(*bif));\n	psref_target_destroy"))]),
-    Fault("bridge", "bridge", "a release before the section in which the link is followed", (9, 2, 1), "run 66,651", FREED, [
+    Fault("bridge", "bridge", "a release before the section in which the link is followed", (9, 2, 1), FREED, [
         (BRIDGE_RELEASE, swapped(BRIDGE_RELEASE, 0, 1))]),
-    Fault("bridge", "bridge", "a reference kept over unbind", (1, 0, 0), "run 1", r"curlwp_bindx: the thread has passive references|is held already", [
+    Fault("bridge", "bridge", "a reference kept over unbind", (1, 0, 0), r"curlwp_bindx: the thread has passive references|is held already", [
         (BRIDGE_RELEASE, without(BRIDGE_RELEASE, 1))]),
-    Fault("ifindex", "ifindex", "a perform forgotten", (5, 2, 1), "run 453", FREED, [(DETACH, without(DETACH, 1))]),
-    Fault("ifindex", "growth", "the old table freed before the perform", (1, 1, 0), "not in 100,000", FREED, [(GROW, swapped(GROW, 1, 2))]),
-    Fault("ifindex", "ifindex", "a psref acquired after the section", (3, 2, 1), "run 21,165", FREED, [
+    Fault("ifindex", "ifindex", "a perform forgotten", (5, 2, 1), FREED, [(DETACH, without(DETACH, 1))]),
+    Fault("ifindex", "growth", "the old table freed before the perform", (1, 1, 0), FREED, [(GROW, swapped(GROW, 1, 2))]),
+    Fault("ifindex", "ifindex", "a psref acquired after the section", (3, 2, 1), FREED, [
         (IF_GET, IF_GET.replace("	pserialize_read_exit(s);\n", "").replace("	if (__predict", "	pserialize_read_exit(s);\n	if (__predict"))]),
-    Fault("ifindex", "ifindex", "a free before the destroy", (1, 1, 0), "not in 100,000", FREED, [(DETACH, swapped(DETACH, 4, 5))]),
-    Fault("ifindex", "ifindex", "a thread that isn't bound", (1, 0, 0), "run 5", r"psref_acquire: the thread is not bound", [
+    Fault("ifindex", "ifindex", "a free before the destroy", (1, 1, 0), FREED, [(DETACH, swapped(DETACH, 4, 5))]),
+    Fault("ifindex", "ifindex", "a thread that isn't bound", (1, 0, 0), r"psref_acquire: the thread is not bound", [
         ("	bound = curlwp_bind();\n", "	bound = 1;\n"), ("	curlwp_bindx(bound);\n", "	(void)bound;\n")]),
-    Fault("ifindex", "ifindex", "a reference kept over unbind", (1, 0, 0), "run 1", r"the thread has passive references", [
+    Fault("ifindex", "ifindex", "a reference kept over unbind", (1, 0, 0), r"the thread has passive references", [
         ("	if_put(ifp, &psref);\n", "	if (!sent)\n		if_put(ifp, &psref);\n")]),
-    Fault("devsw", "devsw", "a perform forgotten", (6, 2, 1), "run 3,609", FREED, [(DEVSW_END, without(DEVSW_END, 1))]),
-    Fault("devsw", "devsw", "a drain before the unlinking", (6, 1, 1), "run 363", FREED, [
+    Fault("devsw", "devsw", "a perform forgotten", (6, 2, 1), FREED, [(DEVSW_END, without(DEVSW_END, 1))]),
+    Fault("devsw", "devsw", "a drain before the unlinking", (6, 1, 1), FREED, [
         (DEVSW_END, "	localcount_drain(&ref->dr_lc, &device_cv, &device_lock);\n" + without(DEVSW_END, 2))]),
-    Fault("devsw", "devsw", "a count acquired after the section", (4, 2, 1), "run 2,975", FREED, [
+    Fault("devsw", "devsw", "a count acquired after the section", (4, 2, 1), FREED, [
         (DEVSW_FIND, "	pserialize_read_exit(s);\n" + without(DEVSW_FIND, 2))]),
-    Fault("devsw", "devsw", "a count released twice", (1, 0, 0), "run 4", r"no reference to the count is held|is not live|freed", [
+    Fault("devsw", "devsw", "a count released twice", (1, 0, 0), r"no reference to the count is held|is not live|freed", [
         (DEVSW_RELEASE, DEVSW_RELEASE * 2)]),
-    Fault("devsw", "devsw", "the wrong lock", (1, 1, 0), "run 12", r"the interlock differs", [
+    Fault("devsw", "devsw", "the wrong lock", (1, 1, 0), r"the interlock differs", [
         ("static kmutex_t		device_lock;\n", "static kmutex_t		device_lock, other_lock;\n"),
         ("	mutex_init(&device_lock, MUTEX_DEFAULT, IPL_NONE);\n", "	mutex_init(&device_lock, MUTEX_DEFAULT, IPL_NONE);\n	mutex_init(&other_lock, MUTEX_DEFAULT, IPL_NONE);\n"),
         (DEVSW_RELEASE, DEVSW_RELEASE.replace("&device_lock", "&other_lock"))]),
-    Fault("devsw", "devsw", "a release forgotten", (1, 1, 0), "run 78", r"waits in localcount_drain at .* for 1 reference, acquired by thread \"open\" at ", [
+    Fault("devsw", "devsw", "a release forgotten", (1, 1, 0), r"waits in localcount_drain at .* for 1 reference, acquired by thread \"open\" at ", [
         (OPEN, without(OPEN, 1))]),
-    Fault("ioctl", "ioctl", "a perform forgotten", (5, 2, 1), "run 5,855", FREED, [(REMOVE, without(REMOVE, 1))]),
-    Fault("ioctl", "replace", "a perform forgotten where an entry is replaced", (5, 2, 1), "run 3,385", FREED, [(REPLACE, without(REPLACE, 1))]),
-    Fault("ioctl", "ioctl", "a copy to the user inside the section", (1, 0, 0), "run 1", r"copyout: inside a read section", [
+    Fault("ioctl", "ioctl", "a perform forgotten", (5, 2, 1), FREED, [(REMOVE, without(REMOVE, 1))]),
+    Fault("ioctl", "replace", "a perform forgotten where an entry is replaced", (5, 2, 1), FREED, [(REPLACE, without(REPLACE, 1))]),
+    Fault("ioctl", "ioctl", "a copy to the user inside the section", (1, 0, 0), r"copyout: inside a read section", [
         (ENTRY_GET, without(ENTRY_GET, 2)), (COPYOUT, COPYOUT.replace("	psref_release", "	pserialize_read_exit(0);\n	psref_release"))]),
-    Fault("ioctl", "ioctl", "a free before the destroy", (1, 0, 0), "not in 100,000", FREED, [(REMOVE, swapped(without(REMOVE, 4), 3, 4))]),
-    Fault("ioctl", "ioctl", "a psref acquired after the section", (3, 2, 1), "run 36,161", FREED, [
+    Fault("ioctl", "ioctl", "a free before the destroy", (1, 0, 0), FREED, [(REMOVE, swapped(without(REMOVE, 4), 3, 4))]),
+    Fault("ioctl", "ioctl", "a psref acquired after the section", (3, 2, 1), FREED, [
         (ENTRY_GET, "	pserialize_read_exit(s);\n" + without(ENTRY_GET, 2))]),
-    Fault("ioctl", "ioctl", "a destroy with the lock that a holder waits for", (3, 1, 1), "run 35",
+    Fault("ioctl", "ioctl", "a destroy with the lock that a holder waits for", (3, 1, 1),
         r"deadlock: .*psref_target_destroy|deadlock: .*mutex_enter", [
         (REMOVE, swapped(REMOVE, 2, 3)), (COPYOUT, COPYOUT.replace("	psref_release", "	mutex_enter(&entry_lock);\n	mutex_exit(&entry_lock);\n	psref_release"))]),
-    Fault("rxintr", "rxintr", "a perform forgotten", (14, 3, 1), "not in 100,000", FREED, [(UNLISTEN, without(UNLISTEN, 1))]),
-    Fault("rxintr", "rxintr", "a lock of IPL_NONE in a soft interrupt", (1, 1, 0), "run 1",
+    Fault("rxintr", "rxintr", "a perform forgotten", (14, 3, 1), FREED, [(UNLISTEN, without(UNLISTEN, 1))]),
+    Fault("rxintr", "rxintr", "a lock of IPL_NONE in a soft interrupt", (1, 1, 0),
         r"in a soft interrupt, and the lock is of IPL_NONE|at a raised level|with a spin lock", [
         ("	mutex_init(&rxq_lock, MUTEX_DEFAULT, IPL_NET);\n", "	mutex_init(&rxq_lock, MUTEX_DEFAULT, IPL_NONE);\n")]),
-    Fault("rxintr", "rxintr", "a packet that is never freed", (1, 3, 0), "not in 100,000",
+    Fault("rxintr", "rxintr", "a packet that is never freed", (1, 3, 0),
         r"left at the end, (one of them )?taken by kmem_intr_alloc at ", [
         ("		rx_deliver(p->p_number);\n		kmem_intr_free(p, sizeof(*p));\n", "		rx_deliver(p->p_number);\n")]),
-    Fault("rxintr", "rxintr", "a psref acquired after the section", (13, 3, 1), "not in 100,000", FREED, [(DELIVER, swapped(DELIVER, 0, 1))]),
-    Fault("rxintr", "rxintr", "a free before the destroy", (1, 0, 0), "not in 100,000", FREED, [
+    Fault("rxintr", "rxintr", "a psref acquired after the section", (13, 3, 1), FREED, [(DELIVER, swapped(DELIVER, 0, 1))]),
+    Fault("rxintr", "rxintr", "a free before the destroy", (1, 0, 0), FREED, [
         (UNLISTEN, without(UNLISTEN, 5).replace("	psref_target", "	kmem_free(l, sizeof(*l));\n	psref_target"))]),
-    Fault("rxintr", "rxintr", "a sleep at a raised level", (1, 0, 0), "run 1", r"kmem_intr_alloc: at a raised level", [
+    Fault("rxintr", "rxintr", "a sleep at a raised level", (1, 0, 0), r"kmem_intr_alloc: at a raised level", [
         ("KM_NOSLEEP", "KM_SLEEP")]),
-    Fault("counters", "counters", "a putref forgotten", (1, 0, 0), "run 1", r"with its CPU|with preemption", [
+    Fault("counters", "counters", "a putref forgotten", (1, 0, 0), r"with its CPU|with preemption", [
         ("		_NET_STATADD(counters, which, number);\n", "		_NET_STATADD_REF(_NET_STAT_GETREF(counters), which, number);\n")]),
-    Fault("counters", "counters", "a sum without the cross call", (1, 0, 0), "run 1", r"KASSERT: not so: ci == curcpu\(\)", [
+    Fault("counters", "counters", "a sum without the cross call", (1, 0, 0), r"KASSERT: not so: ci == curcpu\(\)", [
         ("	percpu_foreach_xcall(counters, XC_HIGHPRI, counters_sum_cpu, sums);\n", "	percpu_foreach(counters, counters_sum_cpu, sums);\n")]),
-    Fault("counters", "counters", "a putref too much", (1, 0, 0), "run 1", r"percpu_putref: without a percpu_getref", [
+    Fault("counters", "counters", "a putref too much", (1, 0, 0), r"percpu_putref: without a percpu_getref", [
         ("		_NET_STATADD(counters, which, number);\n", "	{\n		_NET_STATADD(counters, which, number);\n		_NET_STAT_PUTREF(counters);\n	}\n")]),
-    Fault("counters", "counters", "the wrong size at the end", (1, 2, 0), "run 1", r"bytes are given back of", [
+    Fault("counters", "counters", "the wrong size at the end", (1, 2, 0), r"bytes are given back of", [
         ("	percpu_free(counters, sizeof(uint64_t) * COUNTERS);\n", "	percpu_free(counters, sizeof(uint64_t));\n")]),
-    Fault("counters", "counters", "counters that are never freed", (1, 2, 0), "not in 100,000",
+    Fault("counters", "counters", "counters that are never freed", (1, 2, 0),
         r"1 block of memory is left at the end, taken by percpu_alloc at ", [
         ("	percpu_free(counters, sizeof(uint64_t) * COUNTERS);\n", "")]),
-    Fault("unload", "unload", "a perform forgotten", (959, 2, 1), "run 62,574", FREED, [(UNHOOK, without(UNHOOK, 1))]),
-    Fault("unload", "unload", "a drain before the unlinking", (959, 1, 1), "run 13", FREED, [(UNHOOK, UNHOOK.split("\n")[2] + "\n" + without(UNHOOK, 2))]),
-    Fault("unload", "unload", "a count acquired after the section", (550, 2, 1), "run 2,614", FREED, [(FOUND_HOOK, swapped(FOUND_HOOK, 0, 1))]),
-    Fault("unload", "unload", "a broadcast forgotten", (1, 3, 0), "run 1", r"nobody can go on: .*kthread_join|nobody can go on: .*cv_wait", [
+    Fault("unload", "unload", "a perform forgotten", (959, 2, 1), FREED, [(UNHOOK, without(UNHOOK, 1))]),
+    Fault("unload", "unload", "a drain before the unlinking", (959, 1, 1), FREED, [(UNHOOK, UNHOOK.split("\n")[2] + "\n" + without(UNHOOK, 2))]),
+    Fault("unload", "unload", "a count acquired after the section", (550, 2, 1), FREED, [(FOUND_HOOK, swapped(FOUND_HOOK, 0, 1))]),
+    Fault("unload", "unload", "a broadcast forgotten", (1, 3, 0), r"nobody can go on: .*kthread_join|nobody can go on: .*cv_wait", [
         (DYING, without(DYING, 2))]),
-    Fault("unload", "unload", "a wake-up that is lost: the flag set without the lock", (1, 1, 0), "run 16,205", r"data race", [
+    Fault("unload", "unload", "a wake-up that is lost: the flag set without the lock", (1, 1, 0), r"data race", [
         (DYING, "	sc->sc_dying = true;\n	cv_broadcast(&sc->sc_cv);\n	mutex_enter(&sc->sc_lock);\n")]),
-    Fault("unload", "unload", "two locks in two orders", (342, 11, 1), "run 9,015", r"deadlock: .*(rw_enter|mutex_enter)", [
+    Fault("unload", "unload", "two locks in two orders", (342, 11, 1), r"deadlock: .*(rw_enter|mutex_enter)", [
         (CALL_HOOK, CALL_HOOK.replace("	*answer", "	mutex_enter(&sc->sc_lock);\n	*answer").replace("	rw_exit", "	mutex_exit(&sc->sc_lock);\n	rw_exit")),
         (WORK, without(WORK, 0, 4))]),
-    Fault("unload", "unload", "a callout that is halted with its lock held", (6, 7, 1), "run 625", r"deadlock: .*callout_halt|deadlock: .*mutex_enter", [
+    Fault("unload", "unload", "a callout that is halted with its lock held", (6, 7, 1), r"deadlock: .*callout_halt|deadlock: .*mutex_enter", [
         ("	callout_halt(&sc->sc_callout, &sc->sc_lock);\n", "	callout_halt(&sc->sc_callout, NULL);\n")]),
-    Fault("unload", "unload", "a callout that isn't halted", (1, 2, 0), "run 1",
+    Fault("unload", "unload", "a callout that isn't halted", (1, 2, 0),
         r"callout_destroy: the callout is pending|callout_destroy: the callout runs|freed", [
         ("	callout_halt(&sc->sc_callout, &sc->sc_lock);\n", "")]),
-    Fault("unload", "unload", "a worker that isn't joined", (1, 2, 0), "run 2",
+    Fault("unload", "unload", "a worker that isn't joined", (1, 2, 0),
         r"freed memory|a thread waits for|of memory (is|are) left|signal 11|status 1", [
         ("	kthread_join(sc->sc_worker);\n", "")]),
 ]

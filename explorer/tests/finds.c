@@ -309,6 +309,101 @@ HANDLER(use_given_block, const unsigned *given = atomic_load_relaxed(&block); KA
 
 HANDLER(write_behind_seen, *(volatile unsigned *)(block + 1) = 1)
 
+/* ---- What a call reads and writes of the code's own memory, and what threads have on their stacks. ---- */
+
+static struct psref shared;
+static lwp_t *worker;
+static struct workqueue *queues[2];
+static struct work common;
+
+BODY(refer_in_common)
+{
+	int bound = curlwp_bind();
+	psref_acquire(&shared, &target, things);
+	psref_release(&shared, &target, things);
+	curlwp_bindx(bound);
+}
+
+static void make_target(void) { things = psref_class_create("thing", IPL_SOFTNET); psref_target_init(&target, things); }
+HANDLER(write_and_exit, *(unsigned *)arg = 2; kthread_exit(0))
+HANDLER(look_for_self, KASSERT(worker == NULL || worker == curlwp); kthread_exit(0))
+
+static void make_worker(void (*body)(void *), void *arg)
+{
+	EXPECT(kthread_create(PRI_NONE, KTHREAD_MUSTJOIN, NULL, body, arg, &worker, "worker") == 0);
+}
+
+BODY(share_stack)
+{
+	unsigned own = 0;
+	make_worker(write_and_exit, &own);
+	own = 1;
+	kthread_join(worker);
+	KASSERT(own != 0);
+}
+
+HANDLER(make_self, make_worker(look_for_self, NULL); kthread_join(worker))
+HANDLER(copy_in, copyin(from, text, sizeof(text)))
+static void do_nothing(struct work *work, void *arg) { (void)work; (void)arg; }
+
+static void make_queues(void)
+{
+	for (unsigned at = 0; at < 2; at++)
+		EXPECT(workqueue_create(&queues[at], "queue", do_nothing, NULL, PRI_NONE, IPL_NONE, WQ_MPSAFE) == 0);
+}
+
+static void destroy_things(void);
+
+static void end_queues(void)
+{
+	destroy_things();
+	for (unsigned at = 0; at < 2; at++)
+		workqueue_destroy(queues[at]);
+}
+
+HANDLER(enqueue_in_first, workqueue_enqueue(queues[0], &common, NULL))
+HANDLER(enqueue_in_second, workqueue_enqueue(queues[1], &common, NULL))
+HANDLER(store_and_look, atomic_store_relaxed(&word, 1); (void)mutex_ownable(&one))
+HANDLER(destroy_one, mutex_destroy(&one))
+
+/* Each kind of thing is shown before it is initialised, or after. */
+static struct { kmutex_t lock; kcondvar_t cv; krwlock_t rw; callout_t callout; struct pool pool; } late;
+static unsigned kind;
+
+static void init_late(void)
+{
+	switch (kind) {
+	case 0: mutex_init(&late.lock, MUTEX_DEFAULT, IPL_NONE); break;
+	case 1: cv_init(&late.cv, "late"); break;
+	case 2: rw_init(&late.rw); break;
+	case 3: callout_init(&late.callout, 0); break;
+	default: pool_init(&late.pool, 8, 0, 0, 0, "late", NULL, IPL_NONE);
+	}
+}
+
+BODY(use_shown)
+{
+	if (!atomic_load_acquire(&flag))
+		return;
+	switch (kind) {
+	case 0: mutex_enter(&late.lock); mutex_exit(&late.lock); break;
+	case 1: cv_signal(&late.cv); break;
+	case 2: (void)rw_tryenter(&late.rw, RW_READER); break;
+	case 3: (void)callout_halt(&late.callout, NULL); break;
+	default: pool_destroy(&late.pool);
+	}
+}
+
+HANDLER(show_and_init, atomic_store_release(&flag, true); init_late())
+HANDLER(init_and_show, init_late(); atomic_store_release(&flag, true))
+static void of_kind_0(void) { kind = 0; }
+static void of_kind_1(void) { kind = 1; }
+static void of_kind_2(void) { kind = 2; }
+static void of_kind_3(void) { kind = 3; }
+static void of_kind_4(void) { kind = 4; }
+
+#define TOO_LATE	"data race: thread \"first\" initialises it at finds.c:*, and thread \"second\" uses it at *finds.c:"
+
 /* ---- Faults whose schedules are cut down to the fewest switches. ---- */
 
 /* The search comes first to an order in which each thread is left in the middle. */
@@ -557,6 +652,20 @@ static const struct find finds[] = {
 	{"a lock that comes too late", "data race: ", write_then_lock, lock_then_write},
 	{"copied bytes", "data race: thread \"first\" writes at finds.c:*, and thread \"second\" reads at finds.c:",
 	    copy_text, read_text},
+	{"bytes that a call copies", "data race: thread \"second\" reads at finds.c:*, and thread \"first\" writes at *finds.c:", copy_in, read_text},
+	{"one reference for two threads", "data race: thread \"first\" reads at *finds.c:*, and thread \"second\" writes at *finds.c:",
+	    refer_in_common, refer_in_common, .make = make_target},
+	{"a variable on a stack", "data race: thread \"worker\" writes at finds.c:*, and thread \"first\" writes at finds.c:", share_stack},
+	{"a thread that looks for itself", "data race: thread \"worker\" reads at finds.c:*, and thread \"first\" writes at *finds.c:", make_self},
+	{"one work in two queues", "workqueue_enqueue: the work is enqueued already, at *finds.c:",
+	    enqueue_in_first, enqueue_in_second, .make = make_queues, .finish = end_queues},
+	{"a look at a lock that is destroyed", "mutex_ownable: the lock was destroyed", store_and_look, destroy_one},
+	{"a lock that is shown too soon", TOO_LATE, show_and_init, use_shown, .make = of_kind_0},
+	{"a lock that is shown", NULL, init_and_show, use_shown, .make = of_kind_0},
+	{"a condition variable that is shown too soon", TOO_LATE, show_and_init, use_shown, .make = of_kind_1},
+	{"an rwlock that is shown too soon", TOO_LATE, show_and_init, use_shown, .make = of_kind_2},
+	{"a callout that is shown too soon", TOO_LATE, show_and_init, use_shown, .make = of_kind_3},
+	{"a pool that is shown too soon", TOO_LATE, show_and_init, use_shown, .make = of_kind_4},
 	{"bytes side by side", NULL, write_first_byte, write_second_byte},
 	{"atomics of the language", NULL, give_by_language, take_by_language},
 	{"a release that another store ends", "data race: ", store_state, end_release, .third = read_second_state},

@@ -330,18 +330,38 @@ static void tear_down_by_barrier(unsigned thread) { tear_down(thread, barrier); 
 static void acquire_local(unsigned thread) { (void)thread; localcount_acquire(&local); }
 static void release_any(unsigned thread) { (void)thread; localcount_release(&local, &cv, &locks[1]); }
 
-/* An object of a cache whose readers the cache's end waits for. */
+/* An object of a cache: it was given back, and the cache's end waits for its readers; or it is given back. */
 static unsigned *object;
 
 static void load_object(unsigned thread) { observe(thread, atomic_load_relaxed(object)); }
 static void destroy_cache(unsigned thread) { (void)thread; pool_cache_destroy(cache); }
+static void put_object(unsigned thread) { (void)thread; pool_cache_put(cache, object); }
+
+static kmutex_t spare;
+
+static void init_spare(unsigned thread) { (void)thread; mutex_init(&spare, MUTEX_DEFAULT, IPL_NONE); }
+static void own_spare(unsigned thread) { store(1, thread + 1); (void)mutex_ownable(&spare); }
+static void destroy_spare(unsigned thread) { (void)thread; mutex_destroy(&spare); }
+static bool psz_ended;
+UNSEEN static void destroy_psz(unsigned thread) { (void)thread; pserialize_destroy(psz); psz_ended = true; }
+
+static struct workqueue *queues[2];
+static struct work common;
+
+static void enqueue_common(unsigned thread)
+{
+	mutex_enter(&locks[0]);
+	workqueue_enqueue(queues[thread], &common, NULL);
+	mutex_exit(&locks[0]);
+}
 static void fail(unsigned thread) { explorer_point(); panic("thread %u", thread); }
+static void lock_and_fail(unsigned thread) { lock_and_load(thread); panic("thread %u", thread); }
 
 /* ---- The list of all, and what each needs. ---- */
 
 enum {
 	LOCKS = 1, SPIN = 2, RW = 4, CV = 8, PSZ = 16, TARGET = 32, LOCAL = 64, SOFTINTS = 128, CALLOUT = 256, PERCPU = 512, QUEUE = 1024, CACHE = 2048,
-	HOOK = 4096, OBJECT = 8192, COUNT = LOCAL | LOCKS | CV | PSZ
+	HOOK = 4096, OBJECT = 8192, PUT = 16384, SPARE = 32768, QUEUES = 65536, COUNT = LOCAL | LOCKS | CV | PSZ
 };
 
 struct thing {
@@ -380,7 +400,10 @@ static const struct thing things_to_do[] = {
 static const struct thing only_written[] = {
     {"count in, unless gone", count_in_unless_gone, 5, COUNT}, {"tear down by perform", tear_down_by_perform, 7, COUNT},
     {"tear down by barrier", tear_down_by_barrier, 14, COUNT}, {"acquire", acquire_local, 1, COUNT}, {"release any", release_any, 1, COUNT},
-    {"load object", load_object, 1, OBJECT}, {"destroy cache", destroy_cache, 2, OBJECT}, {"fail", fail, 1, 0}};
+    {"load object", load_object, 1, 0}, {"destroy cache", destroy_cache, 2, OBJECT},
+    {"put object", put_object, 1, PUT}, {"init spare", init_spare, 1, 0}, {"own spare", own_spare, 1, 0}, {"destroy spare", destroy_spare, 1, SPARE},
+    {"destroy psz", destroy_psz, 1, PSZ}, {"enqueue common", enqueue_common, 6, QUEUES | LOCKS}, {"fail", fail, 1, 0},
+    {"lock, fail", lock_and_fail, 3, LOCKS}};
 
 struct text {
 	int cpu;	/* below 0: the thread isn't bound */
@@ -420,7 +443,7 @@ static void end_rw(void) { rw_destroy(&rw); }
 static void make_cv(void) { cv_init(&cv, "flag"); }
 static void end_cv(void) { cv_destroy(&cv); }
 static void make_psz(void) { psz = pserialize_create(); }
-static void end_psz(void) { pserialize_destroy(psz); }
+static void end_psz(void) { if (!psz_ended) pserialize_destroy(psz); }
 static void make_target(void) { things = psref_class_create("thing", IPL_SOFTNET); psref_target_init(&target, things); }
 static void end_target(void) { if (!gone) psref_target_destroy(&target, things); psref_class_destroy(things); }
 static void make_local(void) { localcount_init(&local); }
@@ -442,6 +465,23 @@ static void make_object(void)
 }
 
 static void end_object(void) { }
+
+static void make_put(void)
+{
+	make_cache();
+	object = pool_cache_get(cache, PR_WAITOK);
+}
+
+static void make_spare(void) { init_spare(0); }
+static void rest(struct work *done, void *arg) { (void)done; (void)arg; }
+
+static void make_queues(void)
+{
+	for (unsigned at = 0; at < 2; at++)
+		EXPECT(workqueue_create(&queues[at], "queue", rest, NULL, PRI_NONE, IPL_NONE, WQ_MPSAFE) == 0);
+}
+
+static void end_queues(void) { workqueue_destroy(queues[0]); workqueue_destroy(queues[1]); }
 static void make_hook(void) { }
 static void end_hook(void) { if (hook.hooked) MODULE_HOOK_UNSET(hook); }
 
@@ -451,7 +491,7 @@ static const struct made {
 } all_made[] = {{LOCKS, make_locks, end_locks}, {SPIN, make_spin, end_spin}, {RW, make_rw, end_rw}, {CV, make_cv, end_cv}, {PSZ, make_psz, end_psz},
     {TARGET, make_target, end_target}, {LOCAL, make_local, end_local}, {SOFTINTS, make_softints, end_softints}, {CALLOUT, make_callout, end_callout},
     {PERCPU, make_percpu, end_percpu}, {QUEUE, make_queue, end_queue}, {CACHE, make_cache, end_cache}, {HOOK, make_hook, end_hook},
-    {OBJECT, make_object, end_object}};
+    {OBJECT, make_object, end_object}, {PUT, make_put, end_cache}, {SPARE, make_spare, end_object}, {QUEUES, make_queues, end_queues}};
 
 UNSEEN static void run_text(void *arg)
 {
@@ -512,8 +552,16 @@ static const struct written {
     {{-1, {acquire_local}}, {-1, {release_any}}, {-1, {acquire_local, release_any}}},
     /* A call gives back memory inside. */
     {{-1, {load_object}}, {-1, {destroy_cache}}},
-    /* Two threads that touch nothing: neither one's fault hides the other's. */
+    /* An object, a lock, an object to perform with, and a work, of which one thread ends or makes what another one uses. */
+    {{-1, {load_object}}, {-1, {put_object}}},
+    {{-1, {own_spare}}, {-1, {destroy_spare}}},
+    {{-1, {init_spare}}, {-1, {own_spare}}},
+    {{-1, {read_section}}, {-1, {perform}}, {-1, {destroy_psz}}},
+    {{-1, {enqueue_common}}, {-1, {enqueue_common}}},
+    /* Threads that touch nothing: no fault hides another one, also of a thread that has to wait first. */
     {{-1, {fail}}, {-1, {fail}}},
+    {{-1, {pause_once, fail}}, {-1, {fail}}},
+    {{-1, {lock_and_fail}}, {-1, {lock_and_load, fail}}},
 };
 
 static const struct thing *thing_with(void (*body)(unsigned thread), const struct thing *from, size_t all)

@@ -2,7 +2,7 @@
 """Compares what is told of the explorer with what it has: told.py points|drivers; the last line is 'N passed, M failed'.
 
 `points`: the calls that the layer shows with those that have a point in the explorer. One without a point must be named here, with the reason.
-`drivers`: the README's table, with what was printed: the output of `drivers` at standard input.
+`drivers`: the table of CASES.md, with what was printed: the output of `drivers` at standard input.
 """
 import re
 import sys
@@ -11,14 +11,14 @@ from pathlib import Path
 EXPLORER = Path(__file__).resolve().parent.parent
 WITHOUT = {
     "looks at nothing but the thread itself": "assert_sleepable at cpu cpu_softintr_p curcpu curlwp hz kernel_locked kpreempt_disabled set_hz set_strict softnet"
-    " mutex_ownable mutex_owned pserialize_in_read_section pserialize_not_in_read_section rw_write_held",
-    "initialises what no other thread has yet": "kthread_create mutex_obj_alloc percpu_alloc percpu_create pool_cache_init pool_init pserialize_create"
+    " pserialize_in_read_section pserialize_not_in_read_section rw_write_held",
+    "initialises what no other thread has yet": "kthread_create mutex_obj_alloc percpu_alloc percpu_create pool_cache_init pserialize_create"
     " psref_class_create softint_establish workqueue_create",
     "is made of calls that have points": "module_hook_exit module_hook_set module_hook_tryenter module_hook_unset",
     "ends the thread or the run": "failed failed_with kthread_exit panic",
 }
 # Those that the explorer has a call of its own for, which says what the step touches.
-TOUCHES = set("bind curlwp_bind curlwp_bindx unbind".split())
+TOUCHES = set("bind callout_init curlwp_bind curlwp_bindx cv_init mutex_init mutex_ownable mutex_owned pool_init rw_init unbind".split())
 PRINTED = r"^([a-z-]+): (\d+) schedules, (\d+) cut short, \d+ states, (\d+) points, \d+ switches$"
 
 
@@ -36,7 +36,7 @@ def points():
 
 def told():
     """The rows of the table, without what the threads do."""
-    text = (EXPLORER / "README.md").read_text()
+    text = (EXPLORER / "CASES.md").read_text()
     lines = text[text.index("| Case |") :].split("\n\n")[0].splitlines()[2:]
     cells = [[cell.strip().replace(",", "") for cell in line.strip("|").split("|")] for line in lines]
     return {(row[0], *row[2:]) for row in cells}

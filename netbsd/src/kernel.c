@@ -140,8 +140,10 @@ int kthread_create(pri_t priority, int flags, struct cpu_info *cpu, void (*body)
 	pthread_mutex_unlock(&kthreads_lock);
 	if (answer == 0 && !joined)
 		pthread_detach(kthread->id);
-	if (answer == 0 && made != NULL)
+	if (answer == 0 && made != NULL) {
+		TELL_WRITE(made, sizeof(*made));
 		*made = lwp;
+	}
 	end_wait(waits);
 	if (answer != 0 || !joined)
 		free(kthread);
@@ -193,8 +195,11 @@ static int copy_user(struct thread *me, const void *from, void *to, const void *
 	require_sleepable(me);
 	if (length > 0 && !is_mapped(user))
 		return EFAULT;
-	if (length > 0)
-		memcpy(to, from, length);
+	if (length == 0)
+		return 0;
+	TELL_READ(from, length);
+	TELL_WRITE(to, length);
+	memcpy(to, from, length);
 	return 0;
 }
 
@@ -215,9 +220,13 @@ static int copy_text(struct thread *me, const char *from, char *to, const void *
 		return EFAULT;
 	size_t all = strnlen(from, length);
 	size_t count = all < length ? all + 1 : length;
+	TELL_READ(from, count);
+	TELL_WRITE(to, count);
 	memcpy(to, from, count);
-	if (copied != NULL)
+	if (copied != NULL) {
+		TELL_WRITE(copied, sizeof(*copied));
 		*copied = count;
+	}
 	return all < length ? 0 : ENAMETOOLONG;
 }
 

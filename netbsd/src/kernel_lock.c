@@ -51,8 +51,10 @@ void kupaldiz_kernel_unlock(int count, int *held)
 	unsigned all = me->kernel_locks, given = count == 0 ? all : count < 0 ? 1 : (unsigned)count;
 	stop_if(me, given > all, "the thread does not have the kernel lock so often");
 	stop_if(me, count < 0 && all > 1, "the thread has the kernel lock more often");
-	if (held != NULL)
+	if (held != NULL) {
+		TELL_WRITE(held, sizeof(*held));
 		*held = (int)all;
+	}
 	give_kernel_lock(me, given);
 	end_call(me);
 }

@@ -34,16 +34,16 @@
 #include <time.h>
 #include <unistd.h>
 
-#include "../include/kupaldiz/cpu.h"
-#include "../include/kupaldiz/kernel.h"
-#include "../include/kupaldiz/localcount.h"
-#include "../include/kupaldiz/locks.h"
-#include "../include/kupaldiz/memory.h"
-#include "../include/kupaldiz/module_hook.h"
-#include "../include/kupaldiz/pserialize.h"
-#include "../include/kupaldiz/psref.h"
-#include "../include/kupaldiz/softint.h"
-#include "../include/kupaldiz/workqueue.h"
+#include <kupaldiz/cpu.h>
+#include <kupaldiz/kernel.h>
+#include <kupaldiz/localcount.h>
+#include <kupaldiz/locks.h>
+#include <kupaldiz/memory.h>
+#include <kupaldiz/module_hook.h>
+#include <kupaldiz/pserialize.h>
+#include <kupaldiz/psref.h>
+#include <kupaldiz/softint.h>
+#include <kupaldiz/workqueue.h>
 
 /* How many milliseconds a wait lasts before it says what it waits for. */
 #ifndef KUPALDIZ_PATIENCE
@@ -83,13 +83,15 @@ enum ending { IN_TIME, AS_IF_WOKEN, BY_SIGNAL };
 
 /* What the explorer alone decides: that a call which may sleep gives a raised level up until its end, also where it needn't wait; whether a call that may fail does
  * so, and whether the code's next wait, which may be one that signals end, ends early; how the last one has ended. It is told of a work that isn't in its
- * queue any more. */
+ * queue any more, and what a call reads and writes of the code's own memory. */
 #ifndef FAILS
 #define MAY_SLEEP()		((void)0)
 #define FAILS()			false
 #define MAY_END_EARLY(signals)	((void)(signals))
 #define LAST_ENDING()		IN_TIME
 #define DEQUEUED(work)		((void)(work))
+#define TELL_READ(at, size)	((void)0)
+#define TELL_WRITE(at, size)	((void)0)
 #endif
 
 struct thread;

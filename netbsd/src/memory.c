@@ -126,11 +126,14 @@ void kmem_intr_free(void *block, size_t size) { free_block(begin_call(__func__),
 char *kmem_strdupsize(const char *text, size_t *size, km_flag_t flags)
 {
 	size_t length = strlen(text) + 1;
+	TELL_READ(text, length);
 	char *copy = kmem_block(begin_plain(__func__), length, flags);
 	if (copy != NULL)
 		memcpy(copy, text, length);
-	if (size != NULL)
+	if (size != NULL) {
+		TELL_WRITE(size, sizeof(*size));
 		*size = length;
+	}
 	return copy;
 }
 

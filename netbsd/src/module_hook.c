@@ -5,7 +5,7 @@
  */
 #include "layer.h"
 
-#include "../include/sys/atomic.h"
+#include <sys/atomic.h>
 
 static kmutex_t lock = {.mtx_made = A_MUTEX, .mtx_level = IPL_NONE};
 static kcondvar_t drained = {.cv_name = "mod_hook", .cv_made = A_CV};

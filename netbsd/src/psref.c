@@ -95,12 +95,14 @@ static void note_reference(struct thread *me, struct psref *psref, const struct 
 	cpu->first_free = reference->next;
 	*reference = (struct reference){psref, target, me->place, me, ++cpu->serial, NOTHING};
 	add_to_chain(cpu, place);
+	TELL_WRITE(psref, sizeof(*psref));
 	*psref = (struct psref){target, cpu->serial, place, cpu->info.ci_index};
 	me->references++;
 }
 
 static struct reference *own_reference(const struct thread *me, const struct psref *psref)
 {
+	TELL_READ(psref, sizeof(*psref));
 	stop_if(me, psref->psref_target == NULL || psref->psref_cpu >= KUPALDIZ_CPUS, "the reference is not held");
 	stop_if(me, psref->psref_cpu != me->cpu->info.ci_index, "the reference is of CPU %u, and this is CPU %u", psref->psref_cpu, me->cpu->info.ci_index);
 	struct reference *found = psref->psref_index < me->cpu->room ? &me->cpu->references[psref->psref_index] : NULL;
@@ -147,6 +149,7 @@ void psref_release(struct psref *psref, const struct psref_target *target, struc
 	struct reference *reference = own_reference(me, psref);
 	stop_if(me, psref->psref_target != target, "the reference is to another target");
 	require_target(me, target, psref_class);
+	TELL_WRITE(psref, sizeof(*psref));
 	psref->psref_target = NULL;
 	forget_reference(me, reference);
 	if (is_ending(target))

@@ -119,9 +119,11 @@ int workqueue_create(struct workqueue **made, const char *name, void (*body)(str
 		}
 	}
 	end_sleep(me, sleep);
-	if (answer == 0)
-		*made = all;
-	return answer;
+	if (answer != 0)
+		return answer;
+	TELL_WRITE(made, sizeof(*made));
+	*made = all;
+	return 0;
 }
 
 void workqueue_destroy(struct workqueue *all)

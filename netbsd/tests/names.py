@@ -14,7 +14,15 @@ from pathlib import Path
 HERE = Path(__file__).resolve().parent
 LAYER = HERE.parent
 TESTED = [*HERE.rglob("*.c"), *(LAYER / "examples").glob("*.c"), *(LAYER.parent / "explorer/tests").glob("*.[c]*")]
-WORDS = ["-std=gnu17", "-Wall", "-Wextra", "-Werror", "-Wno-unused-variable", "-fsyntax-only", "-xc", "-", f"-I{LAYER}/include"]
+WORDS = ["-std=gnu17", "-Wall", "-Wextra", "-Werror", "-Wno-unused-variable", "-fsyntax-only", "-xc", "-", f"-I{LAYER.parent}/out/made/netbsd"]
+
+
+def expanded(name):
+    """The names that one with braces stands for."""
+    found = re.search(r"\{([^{}]*)\}", name)
+    if found is None:
+        return [name]
+    return [one for part in found[1].split(",") for one in expanded(name[: found.start()] + part + name[found.end() :])]
 
 
 def rows():
@@ -22,7 +30,7 @@ def rows():
     for line in (HERE / "names.txt").read_text().splitlines():
         header, *rest = line.split("#")[0].split() or [""]
         for name in rest[1:]:
-            yield header, rest[0], name.replace("~", " ")
+            yield from ((header, rest[0], one.replace("~", " ")) for one in expanded(name))
 
 
 def used(kind, name, number):

@@ -217,21 +217,19 @@ impl<T> Cpu<T> {
         }
     }
 
-    /// Detaches all live entries, the youngest first, but those that are attached meanwhile.
-    pub(crate) fn detach_all(&self) -> Result<Vec<Retired<T>>, DetachError> {
+    /// Detaches all live entries, the youngest first, but those that are attached meanwhile. The
+    /// CPU is outside.
+    pub(crate) fn detach_all(&self) -> Vec<Retired<T>> {
         self.tidy();
-        if self.is_inside() {
-            return Err(DetachError::Inside);
-        }
         let (mut tokens, mut before) = (Vec::new(), u64::MAX);
         loop {
             let mut kept = self.shared().kept();
             let entry = match kept.youngest_live(before) {
                 Some(entry) => entry,
-                None => return Ok(tokens),
+                None => return tokens,
             };
             before = entry.number;
-            // It is live, and isn't refused. A `?` would drop the tokens on a CPU of a call.
+            // It is live, so it isn't refused. The tokens aren't dropped on a CPU of a call.
             tokens.extend(self.detach_by(&mut kept, entry.key()));
         }
     }

@@ -147,10 +147,8 @@ impl<T> Cpu<T> {
 
     /// Whether this CPU has a passive reference to the entry with that number: `psref_held`.
     pub fn holds(&self, number: u64) -> bool {
-        let mut held = false;
-        // SAFETY: as for `depth`.
-        unsafe { ffi::kupaldiz_held(self.handle(), number, &mut held) };
-        held
+        // SAFETY: this thread alone has the CPU, and no call of it writes the handle meanwhile.
+        unsafe { &*self.handle() }.holds(number)
     }
 
     /// The tasks that wait for retired entries. Where it counts, they are looked for before the

@@ -7,9 +7,8 @@ use crate::values::Holder;
 use std::error::Error;
 use std::fmt;
 
-/// Any error of a call. Each kind of call returns an error of its own, such as [`LookUpError`]: `?`
-/// converts it to this one. A call that fails has changed nothing, unless it says so. Each call
-/// lists its errors in the order in which it tests them.
+/// Any error of a call. Each kind of call returns an error of its own, such as [`LookUpError`],
+/// which `?` converts to this one.
 #[derive(Clone, Copy, Debug, PartialEq, Eq, Hash)]
 #[non_exhaustive]
 pub enum RegistryError {
@@ -50,9 +49,6 @@ pub enum RegistryError {
     NeedsDriver,
     /// A CPU is of another registry.
     OtherRegistry,
-    /// The library is of another minor version than the crate, or from 1.0 on of another major
-    /// one.
-    OtherVersion,
     /// The crate was compiled for other [limits](crate::LIMITS) than the library has.
     OtherLimits,
     /// This holds the entry.
@@ -68,7 +64,6 @@ pub enum RegistryError {
 #[allow(missing_docs)] // RegistryError tells each.
 #[non_exhaustive]
 pub enum OpenError {
-    OtherVersion,
     OtherLimits,
     BadSettings,
     NoMemory,
@@ -208,7 +203,6 @@ fn named<E: Copy + Into<RegistryError>>(all: impl IntoIterator<Item = E>, answer
 impl From<OpenError> for RegistryError {
     fn from(error: OpenError) -> Self {
         match error {
-            OpenError::OtherVersion => Self::OtherVersion,
             OpenError::OtherLimits => Self::OtherLimits,
             OpenError::BadSettings => Self::BadSettings,
             OpenError::NoMemory => Self::NoMemory,
@@ -302,7 +296,7 @@ impl RegistryError {
     /// The number of the error in kupaldiz.h, or 0 of what is this crate's own.
     fn number(self) -> u32 {
         match self {
-            Self::OtherRegistry | Self::OtherVersion | Self::NoCpu | Self::StillOpen => 0,
+            Self::OtherRegistry | Self::NoCpu | Self::StillOpen => 0,
             Self::NoMemory => ffi::NO_MEMORY,
             Self::BadSettings => ffi::BAD_SETTINGS,
             Self::BadName => ffi::BAD_NAME,
@@ -329,7 +323,6 @@ impl fmt::Display for RegistryError {
     fn fmt(&self, f: &mut fmt::Formatter<'_>) -> fmt::Result {
         f.write_str(match self {
             Self::OtherRegistry => "the CPU is of another registry",
-            Self::OtherVersion => "the library is of another version than the crate",
             Self::NoCpu => "the program has taken every CPU of the registry",
             Self::StillOpen => "the registry has another handle",
             Self::BadName => "a name has 1 to 16 bytes that aren't all 0",
@@ -383,22 +376,10 @@ pub(crate) fn text(answer: u32) -> &'static str {
 
 /// The error of a call that takes a value, together with that value, unchanged: what an attach was
 /// given, the [`Retired`](crate::Retired) of a destroy, or the registry of a close. It will have no
-/// other field, so a caller may take it apart. The text of a destroy's error names the first
-/// obstacle, and in a registry that was opened by
-/// [`Registry::open_tracked`](crate::Registry::open_tracked) each line that holds the entry.
+/// other field, so a caller may take it apart.
 ///
-/// In a function that returns a [`RegistryError`], `?` converts it, and drops what was given. If
-/// the error must be `Send` and `'static`, such as a boxed error, `RegistryError::from` converts it
-/// first.
-///
-/// ```
-/// use kupaldiz::{AttachError, Refused, Registry, Settings};
-///
-/// let registry = Registry::open(Settings::new(1, 2)).unwrap();
-/// registry.attach("wm", 1).unwrap();
-/// let Refused { refusal, given } = registry.attach("wm", 2).unwrap_err();
-/// assert_eq!((refusal, given), (AttachError::NameTaken, 2));
-/// ```
+/// `?` converts it to a [`RegistryError`], and drops what was given. Where the error must be `Send`
+/// and `'static`, as a boxed one, `RegistryError::from` converts it first.
 #[derive(Clone, Copy, PartialEq, Eq, Hash)]
 pub struct Refused<E, G> {
     /// The error.

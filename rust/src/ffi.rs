@@ -52,6 +52,17 @@ impl<Of> Handle<Of> {
     }
 }
 
+impl Cpu {
+    /// Whether the CPU has a passive reference to the entry with that number.
+    pub fn holds(&self, number: u64) -> bool {
+        let mut held = false;
+        // SAFETY: a handle isn't `Sync`, so this thread alone has the CPU. With an empty handle the
+        // call returns an error, and writes nothing.
+        unsafe { kupaldiz_held(self, number, &mut held) };
+        held
+    }
+}
+
 // SAFETY: kupaldiz(7) says that a handle goes to another thread by a lock, or by the start or the
 // join of a thread; in Rust a value goes by nothing less.
 unsafe impl<Of> Send for Handle<Of> {}

@@ -9,8 +9,8 @@
 //!   and it is as if not made.
 //! - A waker's `wake`: `Tasks::wake` and `Meant::wake`, at the end of a call; or before a change on
 //!   a CPU and between two turns of a wait, which release first what was dropped. A panic ends
-//!   there. A call on a CPU that the crate chose has put it back before, in `Seated`'s drop: else
-//!   that code, which may make such a call, would wait for its own thread.
+//!   there. A call on a CPU that the crate chose has put it back before, in `Seats::with`: else that
+//!   code, which may make such a call, would wait for its own thread.
 //! - A waker's drop: `Tasks`, where a task is forgotten or noted anew. A panic ends there.
 //! - The drop of a `T`: `Shared::drop_deferred`, for `Retired`'s drop, and `Shared`'s drop, for
 //!   that of the last handle. If it panics, so does the call, once the other `T`s are dropped. What

@@ -1,23 +1,13 @@
 //! A small table of named entries, such as interfaces, drivers or plug-ins, that many threads read
 //! without a lock. Each entry carries a value of yours.
 //!
-//! # The problem
-//!
-//! A kernel looks up a network interface for each packet and a driver for each device call, on
-//! every CPU at once. A lock or reference count that every CPU writes bounces its cache line among
-//! all of them. But if a lookup writes nothing that other CPUs see, the thread that removes an
-//! interface can't see who still uses it. It has to find out before the interface's memory is
-//! reused.
-//!
-//! # The mechanism
-//!
-//! A lookup writes one word of its own CPU when it begins and when it ends. (A CPU remembers what
-//! it found: of that [`Cpu::look_up`] writes none, and [`Cpu::get`] only the word that counts its
-//! reference.) The thread that removes an entry unlinks it and records the word of each CPU. It
-//! reads the words again until each has changed or says that its CPU is outside. No lookup that
-//! began afterwards can have found the entry. References are counted on the CPU that acquires them.
-//! The counts are read, or collected, after that. Only then is the entry freed: its slot is reused,
-//! and its `T` is returned.
+//! A lock or reference count that every CPU writes bounces its cache line among all of them. Here a
+//! lookup writes one word of its own CPU when it begins and when it ends. (A CPU remembers what it
+//! found: of that [`Cpu::look_up`] writes none, and [`Cpu::get`] only the word that counts its
+//! reference.) The thread that removes an entry unlinks it, and reads each CPU's word until that
+//! has changed or says that the CPU is outside: no lookup that began afterwards can have found the
+//! entry. Then it reads the references, which are counted on the CPU that acquires them. Only after
+//! that is the entry freed: its slot is reused, and its `T` is returned.
 //!
 //! # The terms
 //!
@@ -71,8 +61,7 @@
 //! # The order of memory
 //!
 //! What was written before an attach or a replacement is visible to any CPU that finds the entry.
-//! The last use of an entry's `T` comes before the `T` is returned. Each step on a word of the
-//! registry is a sequentially consistent atomic operation of the archive.
+//! The last use of an entry's `T` comes before the `T` is returned.
 //!
 //! # What is dropped
 //!
@@ -86,8 +75,8 @@
 //! |---|---|
 //! | [`Registry::detach`], then [`Retired::destroy`] or `.await` | the call returns it as [`Freed::value`], or gives the [`Retired`] back in its error |
 //! | [`Registry::retire`] | the call returns it if nothing holds the entry; else a later retire or [`Registry::free_deferred`] |
-//! | [`Registry::detach`], and you drop the [`Retired`] | the drop drops it if nothing holds the entry; else one of these calls returns it later, or the drop of a later [`Retired`] drops it |
-//! | nothing more, or no detach | dropping the registry's last handle drops it |
+//! | [`Registry::detach`], and you drop the [`Retired`] | the drop, if nothing holds the entry; else one of these calls returns it later, or the drop of a later [`Retired`] drops it |
+//! | nothing more, or no detach | the drop of the registry's last handle |
 //!
 //! A driver's `T` is returned or dropped only after those of its interfaces: as long as one of
 //! these is in the registry, waits for its [`Retired`], or is being dropped by a call, the driver

@@ -40,22 +40,11 @@ pub enum Patience {
     Forever,
 }
 
-impl Patience {
-    /// Keep trying until this much time from now has passed. It is `Forever` if no [`Instant`] is
-    /// that late.
-    #[must_use]
-    pub fn at_most(time: Duration) -> Patience {
-        match Instant::now().checked_add(time) {
-            Some(deadline) => Patience::Until(deadline),
-            None => Patience::Forever,
-        }
-    }
-}
-
 impl From<Duration> for Patience {
-    /// As [`Patience::at_most`], from now on: a call that takes a time measures it from its begin.
+    /// Keep trying until this much time from now has passed: a call that takes a time measures it
+    /// from its begin. It is `Forever` if no [`Instant`] is that late.
     fn from(time: Duration) -> Patience {
-        Patience::at_most(time)
+        Instant::now().checked_add(time).map_or(Patience::Forever, Patience::Until)
     }
 }
 
@@ -142,7 +131,7 @@ mod tests {
             (turns(Patience::Forever, 30), turns(Patience::Until(Instant::now()), 100)),
             (30, 1)
         );
-        assert_eq!(Patience::at_most(Duration::MAX), Patience::Forever);
+        assert_eq!(Patience::from(Duration::MAX), Patience::Forever);
     }
 
     /// However many turns were made, there is another one: no wait has a last turn but by what it
@@ -150,7 +139,7 @@ mod tests {
     #[test]
     fn a_wait_has_no_last_turn_of_its_own() {
         for made in [1_000, 100_000, 1_000_000, u32::MAX - 1, u32::MAX] {
-            for patience in [Patience::Forever, Patience::at_most(Duration::from_secs(1_000_000))] {
+            for patience in [Patience::Forever, Patience::from(Duration::from_secs(1_000_000))] {
                 assert!(Pauses { patience, made }.another(), "{made} turns");
             }
         }
@@ -161,7 +150,7 @@ mod tests {
     #[test]
     fn a_deadline_ends_the_wait_and_not_before() {
         let began = Instant::now();
-        let made = turns(Patience::at_most(Duration::from_millis(30)), usize::MAX);
+        let made = turns(Patience::from(Duration::from_millis(30)), usize::MAX);
         assert!(began.elapsed() >= Duration::from_millis(30));
         // The first, sixteen after a spin, eight after a yield, and twelve after sleeps, which take
         // 30 milliseconds or more.

@@ -23,9 +23,8 @@ use std::time::Instant;
 /// A section or a [`PassiveRef`](crate::PassiveRef) on a lent CPU borrows the loan. To sleep,
 /// acquire a [`LocalRef`](crate::LocalRef), and drop the loan.
 ///
-/// A thread needs one loan at a time. Name it by a `let`, and give it to each call: of two loans in
-/// one expression, the second would wait for the first for ever where the pool has one CPU.
-/// [`lend`](CpuPool::lend) panics then.
+/// A thread needs one loan at a time. Name it by a `let`: of two loans in one expression, the second
+/// would wait for the first where the pool has one CPU. [`lend`](CpuPool::lend) panics then.
 ///
 /// ```
 /// use kupaldiz::{CpuPool, Registry, Settings};

@@ -17,8 +17,7 @@ use std::sync::Arc;
 
 /// A passive reference, of psref(9). Its entry keeps its slot and its value until the reference is
 /// dropped. It outlives the section, and its holder may sleep. It has its CPU as a `C`, so neither
-/// can leave the thread, and it is released on that CPU. It derefs to what the entry carries. All
-/// functions are called by the type's name, so that none hides a method of `T`.
+/// can leave the thread, and it is released on that CPU. It derefs to what the entry carries.
 #[must_use = "a reference that is dropped at once holds nothing"]
 pub struct Passive<C: Deref<Target = Cpu<T>>, T> {
     cpu: C,
@@ -105,8 +104,7 @@ impl<C: Deref<Target = Cpu<T>>, T> Drop for Passive<C, T> {
 
 /// A local reference, of localcount(9). Its entry keeps its slot and its value until the reference
 /// is released, on any CPU of the registry. It derefs to what the entry carries. It co-owns its
-/// registry. It may be stored, and other threads may use it, clone it and take it. All functions
-/// are called by the type's name, so that none hides a method of `T`.
+/// registry. It may be stored, and other threads may use it, clone it and take it.
 ///
 /// ```
 /// use kupaldiz::{Registry, Settings};

@@ -11,7 +11,7 @@ use crate::references::LocalRef;
 use crate::retired::Retired;
 use crate::seats::Seats;
 use crate::settings::Settings;
-use crate::shared::Shared;
+use crate::shared::{Closing, Shared};
 use crate::values::{Balance, Entry, Freed};
 use crate::Key;
 use std::fmt;
@@ -28,8 +28,7 @@ use std::sync::Arc;
 /// counts cycles [`cpus`](Registry::cpus) takes the CPUs out; one is the registry's own and stays.
 ///
 /// The registry is open as long as a [handle](crate#what-is-dropped) of it exists, also one that is
-/// forgotten, or that an entry of the same registry carries. Dropping the last one closes it, and
-/// drops the values that its entries still carry.
+/// forgotten, or that an entry of the same registry carries.
 ///
 /// ```
 /// use kupaldiz::{Patience, Registry, Settings};
@@ -75,7 +74,7 @@ impl<T> Registry<T> {
     ///
     /// # Errors
     ///
-    /// `OtherVersion`, `OtherLimits`, `BadSettings`, `NoMemory`.
+    /// `OtherLimits`, `BadSettings`, `NoMemory`.
     pub fn open(settings: Settings) -> Result<Registry<T>, OpenError> {
         Ok(Registry::of(Arc::new(Shared::open(settings, false)?)))
     }
@@ -83,8 +82,11 @@ impl<T> Registry<T> {
     /// Opens a registry that notes the line of the program, and the thread, of each reference that
     /// is acquired and each section that is entered. [`holders`](Registry::holders) says so,
     /// and so does the error of a destroy that gives up: `the entry is still held: 1 local
-    /// reference: src/main.rs:8 (thread "main")`. Each of these calls then takes a lock. A
-    /// registry that [`open`](Registry::open) opens notes nothing; the errors are the same.
+    /// reference: src/main.rs:8 (thread "main")`. Each of these calls then takes a lock.
+    ///
+    /// # Errors
+    ///
+    /// As of [`open`](Registry::open).
     pub fn open_tracked(settings: Settings) -> Result<Registry<T>, OpenError> {
         Ok(Registry::of(Arc::new(Shared::open(settings, true)?)))
     }
@@ -116,8 +118,7 @@ impl<T> Registry<T> {
 
     /// The lines that hold an entry, live or retired, if the registry was opened by
     /// [`open_tracked`](Registry::open_tracked). A reference that was forgotten is among them,
-    /// one that was dropped isn't. A call that another thread makes meanwhile may be noted or not.
-    /// Nobody holds an entry of another registry.
+    /// one that was dropped isn't. Nobody holds an entry of another registry.
     ///
     /// ```
     /// use kupaldiz::{Registry, Settings};
@@ -189,19 +190,17 @@ impl<T> Registry<T> {
         self.shared().baskets.total()
     }
 
-    /// Frees what was [retired](Registry::retire) and nothing holds any more, and returns what was
-    /// freed, the youngest first: an interface before its driver. It tries once for each entry
-    /// that waits, and waits only for the interlock.
+    /// Frees what was [retired](Registry::retire) and nothing holds any more, and returns that, the
+    /// youngest first: an interface before its driver. It makes one turn on each entry that waits.
     #[must_use]
     pub fn free_deferred(&self) -> Vec<Freed<T>> {
         self.shared().collect()
     }
 
     /// What the counts say of each live or retired entry, the lowest-numbered slot first. It needs
-    /// all CPUs, in any order: a `Cpu`, a [`LentCpu`](crate::LentCpu) or a reference to either of
-    /// each. All local references that were dropped are released first. To see on which CPU
-    /// references were acquired, call it before the first turn on the retired entry that meets
-    /// its local references: that turn collects the counts.
+    /// all CPUs, in any order: of each a `Cpu`, a [`LentCpu`](crate::LentCpu) or a reference to
+    /// one. All local references that were dropped are released first. The first turn on a retired
+    /// entry that meets local references collects their counts: then no CPU has any.
     ///
     /// # Errors
     ///
@@ -223,7 +222,7 @@ impl<T> Registry<T> {
         }
         cpus[0].release_dropped();
         let own = self.seats.own();
-        cpus.extend(own.iter().filter_map(|seated| seated.cpu.as_deref()));
+        cpus.extend(own.iter().filter_map(|seated| seated.as_ref()));
         // With many slots it is too long for a stack.
         let mut list = vec![ffi::Balance::EMPTY; usize::from(self.settings().slots)];
         let length = self.audit_into(&cpus, &mut list);
@@ -258,19 +257,7 @@ impl<T> Registry<T> {
     }
 }
 
-/// Waits that this CPU itself doesn't hold up.
 impl<T> Cpu<T> {
-    /// As [`Registry::drain`]. What this CPU holds is said at once, as by
-    /// [`Retired::destroy_on`](crate::Retired::destroy_on).
-    ///
-    /// # Errors
-    ///
-    /// `Inside`: nothing is detached then.
-    pub fn drain(&self, patience: impl Into<Patience>) -> Result<Drained<T>, DetachError> {
-        let patience = patience.into();
-        Ok(self.registry().drained(Some(self), self.detach_all()?, patience))
-    }
-
     /// Waits until each section that is open now has ended: `pserialize_perform`. It is for what
     /// sections use that is in no entry: an entry needs no such wait.
     ///
@@ -330,28 +317,18 @@ impl<T> Registry<T> {
     /// `NoCpu`: nothing is detached then.
     pub fn drain(&self, patience: impl Into<Patience>) -> Result<Drained<T>, DetachError> {
         let patience = patience.into();
-        let tokens = self.seats.with(Cpu::detach_all).unwrap_or(Err(DetachError::NoCpu))?;
-        Ok(self.drained(None, tokens, patience))
-    }
-
-    /// Destroys each of these, and frees meanwhile what is deferred: an interface that is deferred
-    /// may be what holds its driver.
-    fn drained(
-        &self,
-        cpu: Option<&Cpu<T>>,
-        tokens: Vec<Retired<T>>,
-        patience: Patience,
-    ) -> Drained<T> {
+        let tokens = self.seats.with(Cpu::detach_all).ok_or(DetachError::NoCpu)?;
         let (mut freed, mut held) = (self.free_deferred(), Vec::new());
         for token in tokens {
-            let done = token.destroy_while(cpu, patience, || freed.extend(self.free_deferred()));
+            // An interface that is deferred may be what holds its driver.
+            let done = token.destroy_while(None, patience, || freed.extend(self.free_deferred()));
             match done {
                 Ok(one) => freed.push(one),
                 Err(error) => held.push(error),
             }
         }
         freed.extend(self.free_deferred());
-        Drained { freed, held }
+        Ok(Drained { freed, held })
     }
 
     /// Closes the registry, once this is its only handle, and drops what its entries carry. Until
@@ -378,55 +355,45 @@ impl<T> Registry<T> {
         self,
         patience: impl Into<Patience>,
     ) -> Result<(), Refused<CloseError, Registry<T>>> {
-        let (mut seats, mut pauses) = (self.seats, Pauses::new(patience.into()));
-        if seats.shared.end.closing.is_awaited.swap(true, Ordering::SeqCst) {
-            return Registry::close_beside(seats, pauses);
+        let mut pauses = Pauses::new(patience.into());
+        let closing = Arc::clone(&self.shared().end.closing);
+        if closing.is_awaited.swap(true, Ordering::SeqCst) {
+            return self.close_beside(&closing, pauses);
         }
-        loop {
-            seats = match Registry::unshared(seats) {
-                Ok(_) => return Ok(()),
-                Err(seats) => seats,
-            };
-            if !pauses.another() {
-                seats.shared.end.closing.is_awaited.store(false, Ordering::SeqCst);
-                return Err(still_open(Registry { seats }));
-            }
-        }
+        self.alone(&mut pauses).map(drop).map_err(|given| {
+            closing.is_awaited.store(false, Ordering::SeqCst);
+            Refused { refusal: CloseError::StillOpen, given }
+        })
     }
 
-    /// The registry itself, if this is its only handle.
-    fn unshared(seats: Arc<Seats<T>>) -> Result<Shared<T>, Arc<Seats<T>>> {
-        let last = Arc::try_unwrap(Arc::try_unwrap(seats)?.into_shared());
-        last.map_err(|shared| Registry::of(shared).seats)
-    }
-
-    /// The same, once this is its only handle, as long as the patience lasts. No close of another
-    /// handle is waited for.
-    pub(crate) fn alone(self, pauses: &mut Pauses) -> Result<Shared<T>, Registry<T>> {
-        let mut seats = self.seats;
+    /// What all handles share, once this is the only one, as long as the patience lasts. No close
+    /// of another handle is waited for.
+    pub(crate) fn alone(mut self, pauses: &mut Pauses) -> Result<Shared<T>, Registry<T>> {
         loop {
-            seats = match Registry::unshared(seats) {
-                Ok(shared) => return Ok(shared),
-                Err(seats) => seats,
+            self = match Arc::try_unwrap(self.seats).map(|last| Arc::try_unwrap(last.into_shared()))
+            {
+                Ok(Ok(shared)) => return Ok(shared),
+                Ok(Err(shared)) => Registry::of(shared),
+                Err(seats) => Registry { seats },
             };
             if !pauses.another() {
-                return Err(Registry { seats });
+                return Err(self);
             }
         }
     }
 
     /// Waits beside another close, which would wait for this handle: so it is none meanwhile.
     fn close_beside(
-        seats: Arc<Seats<T>>,
+        self,
+        closing: &Closing,
         mut pauses: Pauses,
     ) -> Result<(), Refused<CloseError, Registry<T>>> {
-        let closing = Arc::clone(&seats.shared.end.closing);
-        let open = Arc::downgrade(&seats.shared);
-        drop(seats);
+        let open = Arc::downgrade(self.shared());
+        drop(self);
         while !closing.is_closed.load(Ordering::SeqCst) {
             if !pauses.another() {
-                if let Some(registry) = open.upgrade().map(Registry::of) {
-                    return Err(still_open(registry));
+                if let Some(given) = open.upgrade().map(Registry::of) {
+                    return Err(Refused { refusal: CloseError::StillOpen, given });
                 }
                 // It is being closed.
                 pauses = Pauses::new(Patience::Forever);
@@ -449,10 +416,6 @@ impl<T> fmt::Debug for Drained<T> {
     fn fmt(&self, f: &mut fmt::Formatter<'_>) -> fmt::Result {
         f.debug_struct("Drained").field("freed", &self.freed).field("held", &self.held).finish()
     }
-}
-
-fn still_open<T>(given: Registry<T>) -> Refused<CloseError, Registry<T>> {
-    Refused { refusal: CloseError::StillOpen, given }
 }
 
 impl<T> Clone for Registry<T> {

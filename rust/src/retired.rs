@@ -24,8 +24,7 @@ pub type Destroyed<T> = Result<Freed<T>, Refused<DestroyError, Retired<T>>>;
 /// does an `.await`, and [`Registry::retire`] leaves it to later calls, as dropping this does.
 ///
 /// It co-owns its registry. It may be stored, and go to other threads. Its value waits for it, but
-/// its slot doesn't: an attach that needs the slot frees the entry, if nothing holds it. Until the
-/// value of an interface is returned or dropped, that of its driver isn't either.
+/// its slot doesn't: an attach that needs the slot frees the entry, if nothing holds it.
 ///
 /// ```
 /// use kupaldiz::{Registry, Settings};
@@ -94,8 +93,7 @@ impl<T> Retired<T> {
     }
 
     /// Waits until nothing holds it, and frees it: `psref_target_destroy`, `localcount_drain`. What
-    /// it carried is returned. Nothing holds a freed entry, now or later. The call tries again and
-    /// again, as long as the [`Patience`] says, and needs no CPU.
+    /// it carried is returned. The call tries again and again, as long as the [`Patience`] says.
     ///
     /// If this thread has a section open on any CPU, or any reference to the entry,
     /// [`Patience::Forever`] waits for ever: [`destroy_on`](Retired::destroy_on) sees what is on a

@@ -1,16 +1,14 @@
 //! The CPUs that the crate chooses among, for the calls of a `Registry`, which name none.
 //!
-//! A CPU lies on the seat with its number. A call takes it from there, and puts it back at its end.
-//! A thread looks at first where the one lies that it took last, so threads that are no more than
-//! CPUs take each its own, and write no word of each other's.
+//! A CPU lies on the seat with its number, under a lock that a call on it holds. A thread looks
+//! first where it found one last, so threads that are no more than CPUs take each its own, and
+//! write no word of each other's.
 
 use crate::cpu::Cpu;
-use crate::lock::locked;
-use crate::patience::{Patience, Pauses};
+use crate::lock::{locked, locked_mut, try_locked, Mutex, MutexGuard};
 use crate::shared::Shared;
 use std::cell::Cell;
-use std::ptr::{self, NonNull};
-use std::sync::atomic::{AtomicPtr, AtomicUsize, Ordering};
+use std::sync::atomic::{AtomicUsize, Ordering};
 use std::sync::Arc;
 
 thread_local! {
@@ -21,10 +19,12 @@ thread_local! {
     };
 }
 
-/// The CPU with one number, in a box; NULL where it isn't here; `taken` where a call has it, or
-/// looks for it. On cache lines of its own.
+/// The CPU with one number, if it is here. On cache lines of its own.
 #[repr(align(128))]
-struct Seat<T>(AtomicPtr<Cpu<T>>);
+struct Seat<T>(Mutex<Option<Cpu<T>>>);
+
+/// A seat with a CPU, which no other call has meanwhile.
+type Seated<'a, T> = MutexGuard<'a, Option<Cpu<T>>>;
 
 /// The seats of a registry, which its `Registry` handles own together. A CPU has a share of the
 /// registry, so the registry itself doesn't own them.
@@ -33,55 +33,20 @@ pub struct Seats<T> {
     pub shared: Arc<Shared<T>>,
 }
 
-fn taken<T>() -> *mut Cpu<T> {
-    NonNull::dangling().as_ptr()
-}
-
-impl<T> Seat<T> {
-    /// The CPU that lies here, in place of which this lies here then.
-    fn take(&self, instead: *mut Cpu<T>) -> Option<Box<Cpu<T>>> {
-        let at = self.0.load(Ordering::Relaxed);
-        if at.is_null()
-            || at == taken()
-            || self.0.compare_exchange(at, instead, Ordering::Acquire, Ordering::Relaxed).is_err()
-        {
-            return None;
-        }
-        // SAFETY: it is a box that was put here, and whoever has replaced it here has it.
-        Some(unsafe { Box::from_raw(at) })
-    }
-
-    fn put(&self, cpu: Box<Cpu<T>>) {
-        self.0.store(Box::into_raw(cpu), Ordering::Release);
-    }
-
-    /// Whether nothing lies here, and no call has what did.
-    fn is_empty(&self) -> bool {
-        self.0.load(Ordering::Relaxed).is_null()
-    }
-}
-
 impl<T> Seats<T> {
     pub fn new(shared: Arc<Shared<T>>) -> Seats<T> {
-        let seat = |_| Seat(AtomicPtr::new(ptr::null_mut()));
+        let seat = |_| Seat(Mutex::new(None));
         Seats { seats: (0..shared.settings.all_cpus()).map(seat).collect(), shared }
     }
 
     /// The CPU with this number, if nobody has it, for the caller to keep. If a call has it, this
-    /// waits until it is back.
+    /// waits for its end.
     pub fn unseat(&self, id: u8) -> Option<Cpu<T>> {
         let own = usize::from(self.shared.settings.cpus);
-        let (seat, mut pauses) =
-            (self.seats[..own].get(usize::from(id))?, Pauses::new(Patience::Forever));
-        loop {
-            let seated = || seat.take(ptr::null_mut()).map(|cpu| *cpu);
-            let found = Cpu::spare(&self.shared, id).or_else(seated);
-            if found.is_some() || seat.is_empty() {
-                found.iter().for_each(|cpu| drop(cpu.owed.take()));
-                return found;
-            }
-            pauses.another();
-        }
+        let mut seat = locked(&self.seats[..own].get(usize::from(id))?.0);
+        let cpu = seat.take().or_else(|| Cpu::spare(&self.shared, id))?;
+        drop(cpu.owed.take());
+        Some(cpu)
     }
 
     /// Does this on a CPU that no call has, and waits for one if each is in a call. The tasks that
@@ -90,55 +55,51 @@ impl<T> Seats<T> {
     #[inline]
     pub fn with<R>(&self, deed: impl FnOnce(&Cpu<T>) -> R) -> Option<R> {
         let begin = BEGIN.try_with(Cell::get).unwrap_or(0) % self.seats.len();
-        let seated = match self.seats[begin].take(taken()) {
-            Some(cpu) => Seated { seats: self, cpu: Some(cpu) },
-            None => self.choose(begin)?,
-        };
-        let done = deed(seated.cpu.as_ref()?);
+        let lying = try_locked(&self.seats[begin].0).filter(|seat| seat.is_some());
+        let seated = lying.or_else(|| self.choose(begin))?;
+        let cpu = seated.as_ref()?;
+        let done = deed(cpu);
+        let slots = cpu.owed.replace(Some(Vec::new())).unwrap_or_default();
+        let meant = self.shared.tasks.meant(|number, until| {
+            cpu.lets_go(number, *until) || until.is_local(|slot| slots.contains(&slot))
+        });
         drop(seated);
+        meant.wake();
         Some(done)
     }
 
     /// The CPU that is the registry's own, if it has one.
     pub fn own(&self) -> Option<Seated<'_, T>> {
         let place = usize::from(self.shared.settings.cpus);
-        let (own, mut pauses) = (self.seats.get(place)?, Pauses::new(Patience::Forever));
-        loop {
-            if let Some(cpu) = own.take(taken()).or_else(|| self.seat_spare(place)) {
-                return Some(Seated { seats: self, cpu: Some(cpu) });
-            }
-            pauses.another();
-        }
+        self.fill(place, locked(&self.seats.get(place)?.0))
     }
 
     #[cold]
     fn choose(&self, begin: usize) -> Option<Seated<'_, T>> {
-        let (all, mut pauses) = (self.seats.len(), Pauses::new(Patience::Forever));
-        let places = || (begin..begin + all).map(|place| place % all);
         loop {
-            let found = places().find_map(|place| self.seats[place].take(taken()));
-            if let Some(cpu) = found.or_else(|| places().find_map(|place| self.seat_spare(place))) {
-                let _ = BEGIN.try_with(|begin| begin.set(usize::from(cpu.id())));
-                return Some(Seated { seats: self, cpu: Some(cpu) });
+            let mut in_a_call = None;
+            for place in (begin..self.seats.len()).chain(0..begin) {
+                match try_locked(&self.seats[place].0) {
+                    None => in_a_call = Some(&self.seats[place]),
+                    Some(seat) => {
+                        if let Some(seated) = self.fill(place, seat) {
+                            let _ = BEGIN.try_with(|begin| begin.set(place));
+                            return Some(seated);
+                        }
+                    }
+                }
             }
-            if self.seats.iter().all(Seat::is_empty) {
-                return None;
-            }
-            pauses.another();
+            drop(locked(&in_a_call?.0));
         }
     }
 
-    /// A CPU that nobody has, to lie here. Its seat says that it is taken before it is, so that
-    /// nobody misses it.
-    fn seat_spare(&self, place: usize) -> Option<Box<Cpu<T>>> {
-        let at = &self.seats[place].0;
-        at.compare_exchange(ptr::null_mut(), taken(), Ordering::Relaxed, Ordering::Relaxed).ok()?;
-        let cpu = Cpu::spare(&self.shared, place as u8);
-        match &cpu {
-            Some(cpu) => drop(cpu.owed.replace(Some(Vec::new()))),
-            None => at.store(ptr::null_mut(), Ordering::Relaxed),
+    /// The CPU that lies here, or that nobody has.
+    fn fill<'a>(&self, place: usize, mut seat: Seated<'a, T>) -> Option<Seated<'a, T>> {
+        if seat.is_none() {
+            *seat = Cpu::spare(&self.shared, place as u8);
+            drop(seat.as_ref()?.owed.replace(Some(Vec::new())));
         }
-        cpu.map(Box::new)
+        Some(seat)
     }
 
     /// The registry, once the CPUs that lie here are given back.
@@ -151,32 +112,11 @@ impl<T> Drop for Seats<T> {
     /// Gives all CPUs back. Then the registry may have other seats; and at last, if there was any,
     /// all tasks are woken.
     fn drop(&mut self) {
-        let cpus = self.seats.iter().filter_map(|seat| seat.take(ptr::null_mut()));
+        let cpus = self.seats.iter_mut().filter_map(|seat| locked_mut(&mut seat.0).take());
         let given_back = cpus.map(drop).count();
         *locked(&self.shared.seats) = None;
         if given_back > 0 {
             self.shared.tasks.wake(|_, _| true);
-        }
-    }
-}
-
-/// A CPU that a call has, and goes back to its seat.
-pub struct Seated<'a, T> {
-    seats: &'a Seats<T>,
-    /// There until it is dropped.
-    pub cpu: Option<Box<Cpu<T>>>,
-}
-
-impl<T> Drop for Seated<'_, T> {
-    #[inline]
-    fn drop(&mut self) {
-        if let Some(cpu) = self.cpu.take() {
-            let slots = cpu.owed.replace(Some(Vec::new())).unwrap_or_default();
-            let meant = self.seats.shared.tasks.meant(|number, until| {
-                cpu.lets_go(number, *until) || until.is_local(|slot| slots.contains(&slot))
-            });
-            self.seats.seats[usize::from(cpu.id())].put(cpu);
-            meant.wake();
         }
     }
 }

@@ -64,10 +64,6 @@ impl<'cpu, T> Section<'cpu, T> {
     /// let section = cpu.enter().unwrap();
     /// let names: Vec<_> = section.entries().map(|found| Found::entry(&found).name).collect();
     /// assert_eq!(names, ["ixl", "bge", "wm"]);
-    /// let fast = section.entries().find(|found| **found > 10_000).unwrap();
-    /// let fast = Found::acquire(&fast).unwrap();
-    /// section.exit();
-    /// assert_eq!(*fast, 40_000);
     /// ```
     #[inline]
     pub fn entries(&self) -> Entries<'_, 'cpu, T> {
@@ -133,7 +129,7 @@ impl<T> fmt::Debug for Section<'_, T> {
 }
 
 /// An entry that was found in a section, for as long as the section is open. It derefs to what the
-/// entry carries. To use the entry longer, acquire a reference. All functions are called by the
+/// entry carries. To use the entry longer, acquire a reference. Its functions are called by the
 /// type's name, so that none hides a method of `T`.
 pub struct Found<'section, 'cpu, T> {
     record: Record<T>,
@@ -284,9 +280,8 @@ type LookUp = unsafe extern "C" fn(*mut ffi::Cpu, u32, *const ffi::Name, *mut ff
 /// Lookups. Each takes what a [`Key`] is made of, such as a [`Name`](crate::Name).
 impl<T> Cpu<T> {
     /// Enters a section, or nests one more in the open section: `pserialize_read_enter`. It is open
-    /// until the guard is dropped. A section whose guard was forgotten stays open until the CPU
-    /// [leaves](Cpu::leave), is dropped or goes back to its pool. An enter before that is nested in
-    /// it.
+    /// until the guard is dropped; or, if that is [forgotten](crate#what-is-forgotten), until the
+    /// CPU [leaves](Cpu::leave).
     ///
     /// # Errors
     ///
@@ -314,18 +309,6 @@ impl<T> Cpu<T> {
     }
 
     /// The same reference, which co-owns its CPU, or the same error: a struct may own both.
-    ///
-    /// ```
-    /// use kupaldiz::{Registry, Settings};
-    /// use std::rc::Rc;
-    ///
-    /// let registry = Registry::open(Settings::new(1, 1)).unwrap();
-    /// registry.attach("wm", 7).unwrap();
-    /// let cpu = Rc::new(registry.any_cpu().unwrap());
-    /// let driver = cpu.get_rc("wm").unwrap();
-    /// drop(cpu);
-    /// assert_eq!(*driver, 7);
-    /// ```
     #[inline]
     #[track_caller]
     pub fn get_rc(self: &Rc<Self>, key: impl Into<Key>) -> Result<PassiveRc<T>, LookUpError> {
@@ -371,8 +354,7 @@ impl<T> Cpu<T> {
         got
     }
 
-    /// The live entry of this name, and the section in which it was found: what
-    /// [`enter`](Cpu::enter) and [`find`](Section::find) give together.
+    /// The live entry of this name, and the section in which it was found.
     ///
     /// # Errors
     ///
@@ -402,8 +384,8 @@ impl<T> Cpu<T> {
     }
 
     /// The record of the live entry of this name, at one moment during the call. Nothing holds the
-    /// entry afterwards, so what it carries isn't returned. The call opens no section and writes no
-    /// shared word, if the CPU remembers the entry, or that there is none.
+    /// entry afterwards, so what it carries isn't returned. If the CPU remembers the entry, or that
+    /// there is none, the call opens no section and writes no shared word.
     ///
     /// # Errors
     ///
@@ -461,8 +443,7 @@ impl<T> Cpu<T> {
 }
 
 /// An entry together with the section in which it was found: [`Cpu::read`] returns it. It derefs to
-/// what the entry carries, and dropping it exits. It stays with its thread. All functions are
-/// called by the type's name, so that none hides a method of `T`.
+/// what the entry carries, and dropping it exits. It stays with its thread.
 #[must_use = "a section that is dropped at once protects nothing"]
 pub struct ReadGuard<'cpu, T> {
     /// It is lent no longer than the guard lives, which has its section.

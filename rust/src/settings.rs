@@ -1,19 +1,10 @@
 //! The size of a registry, the limits of a build, and the library's version.
 
-use crate::error::OpenError;
 use crate::ffi;
 use std::thread::available_parallelism;
 
 /// The size of a registry, and the limits of its counts. Each method sets one limit and returns the
-/// settings.
-///
-/// ```
-/// use kupaldiz::{Registry, Settings};
-///
-/// const SETTINGS: Settings = Settings::new(2, 4).changes(100);
-/// let registry = Registry::<()>::open(SETTINGS).unwrap();
-/// assert_eq!((registry.settings(), registry.cpus().len()), (SETTINGS, 2));
-/// ```
+/// settings, such as `Settings::new(2, 4).changes(100)`.
 #[derive(Clone, Copy, Debug, PartialEq, Eq, Hash)]
 #[non_exhaustive]
 pub struct Settings {
@@ -158,27 +149,10 @@ pub fn version() -> &'static str {
     unsafe { ffi::string(text) }
 }
 
-/// The library is of this crate's version, else `OtherVersion`.
-pub(crate) fn check_version(library: &str) -> Result<(), OpenError> {
-    if library.starts_with(ffi::VERSION) {
-        Ok(())
-    } else {
-        Err(OpenError::OtherVersion)
-    }
-}
-
 #[cfg(test)]
 mod tests {
-    use super::{check_version, version, Limits, LIMITS};
+    use super::{Limits, LIMITS};
     use crate::error::{checked, OpenError};
-
-    #[test]
-    fn another_version_is_refused() {
-        assert_eq!([version(), "0.1.9", "0.1.0-rc1"].map(check_version), [Ok(()); 3]);
-        for other in ["0.2.0", "0.10.0", "0.1", "1.1.0", "00.1.0", ""] {
-            assert_eq!(check_version(other), Err(OpenError::OtherVersion), "{other}");
-        }
-    }
 
     #[test]
     fn other_limits_than_the_librarys_are_refused() {

@@ -1,7 +1,7 @@
 //! What the handles of a registry share: what the interlock guards, the CPUs that nobody has, and
 //! the local references that were dropped.
 //!
-//! Locks are taken in the order spare, interlock, basket. Nothing under one wakes a task or drops a
+//! Locks are taken in the order seat, spare, interlock, basket. Nothing under one wakes a task or drops a
 //! `T`: foreign.rs has the rule.
 //!
 //! A driver outlives its interfaces: not only its slot, but its value, too. The value of a driver
@@ -17,13 +17,13 @@ use crate::lock::{locked, locked_mut, Mutex, MutexGuard};
 use crate::name::Key;
 use crate::places::Notes;
 use crate::seats::Seats;
-use crate::settings::{check_version, version, Settings, LIMITS};
+use crate::settings::{Settings, LIMITS};
 use crate::tasks::{Tasks, Until};
 use crate::values::{Entry, Freed, Kind, Met};
 use std::cmp::Reverse;
 use std::mem;
 use std::ptr;
-use std::sync::atomic::{AtomicBool, AtomicU64, AtomicUsize, Ordering};
+use std::sync::atomic::{AtomicBool, AtomicU64, Ordering};
 use std::sync::{Arc, Weak};
 
 /// What the interlock guards.
@@ -69,8 +69,6 @@ pub(crate) enum Fate {
 pub struct Shared<T> {
     /// The interlock.
     kept: Mutex<Kept<T>>,
-    /// How many entries are deferred; or a little while ago.
-    waiting: AtomicUsize,
     /// The handle of each CPU that nobody has; the others are empty.
     spare: Mutex<Vec<ffi::Cpu>>,
     /// Where the CPUs lie that the crate chooses among, from the first `Registry` handle until the
@@ -224,10 +222,8 @@ impl<T> Kept<T> {
 }
 
 impl<T> Shared<T> {
-    /// A new registry. Nobody has any of its CPUs. Refused: `OtherVersion`, `OtherLimits`,
-    /// `BadSettings`, `NoMemory`.
+    /// A new registry. Nobody has any of its CPUs.
     pub fn open(settings: Settings, is_tracked: bool) -> Result<Shared<T>, OpenError> {
-        check_version(version())?;
         checked(LIMITS.compared()).map_err(OpenError::of)?;
         let mut keeper = ffi::Keeper::EMPTY;
         let (mut cpus, slots): (Vec<_>, _) =
@@ -246,7 +242,6 @@ impl<T> Shared<T> {
                 deferred: Vec::with_capacity(slots),
                 dropping: Vec::new(),
             }),
-            waiting: AtomicUsize::new(0),
             spare: Mutex::new(cpus),
             seats: Mutex::default(),
             baskets: Baskets::new(slots),
@@ -351,28 +346,17 @@ impl<T> Shared<T> {
             }
         }
         // SAFETY: the last turn freed it, or one before that.
-        let taken = unsafe { kept.take(number, fate) };
-        self.note_waiting(&kept);
-        taken
-    }
-
-    fn note_waiting(&self, kept: &Kept<T>) {
-        self.waiting.store(kept.deferred.len(), Ordering::Relaxed);
+        unsafe { kept.take(number, fate) }
     }
 
     /// Takes a retired entry over from its token.
     pub fn defer(&self, entry: Plain) {
         self.tasks.forget(entry.number);
-        let mut kept = self.kept();
-        kept.deferred.push(entry);
-        self.note_waiting(&kept);
+        self.kept().deferred.push(entry);
     }
 
     /// The deferred entries, the youngest first: an interface goes before its driver.
     fn deferred(&self) -> Vec<Plain> {
-        if self.waiting.load(Ordering::Relaxed) == 0 {
-            return Vec::new();
-        }
         let mut entries = self.kept().deferred.clone();
         entries.sort_unstable_by_key(|entry| Reverse(entry.number));
         entries
@@ -447,9 +431,7 @@ impl<T> Drop for Shared<T> {
             (mem::take(&mut kept.rows), Vec::new(), Vec::new());
         rows.sort_unstable_by_key(|row| Reverse(row.number));
         for row in rows {
-            if kept_drivers.contains(&row.number)
-                || spare.iter_mut().any(|cpu| holds(cpu, row.number))
-            {
+            if kept_drivers.contains(&row.number) || spare.iter().any(|cpu| cpu.holds(row.number)) {
                 kept_drivers.extend(row.driver);
             } else {
                 left.push(row.carried);
@@ -471,13 +453,4 @@ impl<T> Drop for Shared<T> {
         values.into_iter().for_each(|value| panic.run(|| drop(value)));
         panic.go_on();
     }
-}
-
-/// Whether a CPU that nobody has holds a passive reference to the entry with that number.
-fn holds(cpu: &mut ffi::Cpu, number: u64) -> bool {
-    let mut held = false;
-    // SAFETY: the caller alone has the CPU. With an empty handle the call returns an error, and
-    // writes nothing.
-    unsafe { ffi::kupaldiz_held(cpu, number, &mut held) };
-    held
 }

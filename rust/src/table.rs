@@ -118,8 +118,8 @@ impl<T> Table<T> {
     ///
     /// # Errors
     ///
-    /// `OtherVersion`, `OtherLimits`, `BadSettings` for no thread, more than a registry's most
-    /// CPUs, or no entry, `NoMemory`.
+    /// `OtherLimits`, `BadSettings` for no thread, more than a registry's most CPUs, or no entry,
+    /// `NoMemory`.
     pub fn open(threads: u8, entries: u32) -> Result<Table<T>, OpenError> {
         let choice = Choice::of(entries);
         let settings = Settings::new(threads, choice.slots);

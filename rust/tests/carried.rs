@@ -3,8 +3,8 @@
 
 mod common;
 
-use common::{detach, local, name, opened, passive, patience, with_driver, Drops, Tracked, LONG};
-use kupaldiz::{Cpu, Holder, Kind, Patience, Registry, Retired, Settings};
+use common::*;
+use kupaldiz::*;
 use std::cell::{Cell, RefCell};
 use std::mem;
 use std::panic::{catch_unwind, AssertUnwindSafe};
@@ -100,7 +100,7 @@ type End = fn(Plug, Box<dyn Fn(Role) -> Part>);
 fn tokens((_registry, cpus): &Plug, make: &dyn Fn(Role) -> Part) -> (Retired<Part>, Retired<Part>) {
     let object = cpus[0].detach((Kind::Iface, "gz0")).unwrap();
     let library = cpus[0].detach("gz").unwrap();
-    let _ = cpus[0].attach("other", make(Role::Other)).map_err(common::why);
+    let _ = cpus[0].attach("other", make(Role::Other)).map_err(why);
     (object, library)
 }
 
@@ -112,23 +112,23 @@ const ENDS: [(&str, End); 8] = [
         drop(held);
         drop((registry, cpus));
     }),
-    ("a drain", |(_registry, cpus), _| {
-        let drained = cpus[0].drain(patience()).unwrap();
+    ("a drain", |(registry, _cpus), _| {
+        let drained = registry.drain(patience()).unwrap();
         assert_eq!(
             drained.freed.iter().map(|freed| freed.value.role).collect::<Vec<_>>(),
             [Role::Object, Role::Library]
         );
     }),
-    ("a drain with a deferred object", |(_registry, cpus), _| {
+    ("a drain with a deferred object", |(registry, cpus), _| {
         let held = cpus[0].get_local((Kind::Iface, "gz0")).ok();
         cpus[0].detach((Kind::Iface, "gz0")).unwrap().defer();
         drop(held);
-        assert_eq!(cpus[0].drain(patience()).unwrap().freed.len(), 2);
+        assert_eq!(registry.drain(patience()).unwrap().freed.len(), 2);
     }),
     ("tokens", |plug, make| {
         let (object, library) = tokens(&plug, &make);
         let library = library.try_destroy().map(drop).unwrap_err();
-        assert_eq!(library.refusal, kupaldiz::DestroyError::StillHeld(Holder::Local(1)));
+        assert_eq!(library.refusal, DestroyError::StillHeld(Holder::Local(1)));
         drop(object);
         assert_eq!(library.given.try_destroy().unwrap().value.role, Role::Library);
     }),

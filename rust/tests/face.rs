@@ -3,13 +3,8 @@
 
 mod common;
 
-use common::LONG;
-use common::{detach, local, name, opened, opened_tracked, passive, patience, why, with_driver};
-use kupaldiz::{
-    AttachError, Cpu, CpuPool, DetachError, Found, Freed, Hold, Holder, LocalRef, LookUpError,
-    Mapped, Name, NameError, PassiveRc, PassiveRef, Patience, ReadGuard, Registry, RegistryError,
-    Retired, Settings, LIMITS,
-};
+use common::*;
+use kupaldiz::*;
 use std::collections::hash_map::DefaultHasher;
 use std::collections::{BTreeSet, HashSet};
 use std::error::Error;
@@ -84,7 +79,6 @@ fn refusals_say_why() {
         R::TooDeep,
         R::NeedsDriver,
         R::OtherRegistry,
-        R::OtherVersion,
         R::OtherLimits,
         R::StillOpen,
     ];
@@ -158,7 +152,7 @@ fn handles_may_be_closed_at_once() {
 #[test]
 fn errors_need_no_debug_of_what_is_carried() {
     struct Silent;
-    let (_registry, cpus) = with_driver(Silent);
+    let (registry, cpus) = with_driver(Silent);
     let held = local(&cpus[0], "wm");
     let (_, old) = cpus[0].replace(WM, Silent).unwrap();
     let old = old
@@ -169,7 +163,7 @@ fn errors_need_no_debug_of_what_is_carried() {
         .unwrap_err();
     drop(held);
     assert_eq!(format!("{:?}", old.given.try_destroy().unwrap()).matches("Entry").count(), 1);
-    assert!(format!("{:?}", cpus[0].drain(Patience::Forever))
+    assert!(format!("{:?}", registry.drain(Patience::Forever))
         .starts_with("Ok(Drained { freed: [Freed { entry:"));
     drop(cpus[0].attach(WM, Silent).map(|_| cpus[0].attach(WM, Silent).unwrap_err()));
 }
@@ -322,11 +316,11 @@ fn a_wait_lasts_as_long_as_it_is_told() {
     let refused = retired.destroy_on(writer, Patience::Until(Instant::now())).unwrap_err();
     assert_eq!(why(refused.refusal), RegistryError::StillHeld(Holder::Grace(1)));
     let began = Instant::now();
-    let refused = refused.given.destroy_on(writer, Patience::at_most(shortly)).unwrap_err();
+    let refused = refused.given.destroy_on(writer, Patience::from(shortly)).unwrap_err();
     assert!(began.elapsed() >= shortly);
-    let refused = refused.given.destroy(Patience::at_most(shortly)).unwrap_err();
+    let refused = refused.given.destroy(Patience::from(shortly)).unwrap_err();
     assert!(began.elapsed() >= 2 * shortly);
-    let performed = writer.synchronize(Patience::at_most(shortly)).map_err(why);
+    let performed = writer.synchronize(Patience::from(shortly)).map_err(why);
     assert!(performed == Err(RegistryError::Waiting(1)) && began.elapsed() >= 3 * shortly);
     section.exit();
     let freed = refused.given.destroy_on(writer, Patience::Until(Instant::now())).unwrap();
@@ -381,12 +375,12 @@ fn a_destroy_fails_at_once_where_its_own_cpu_holds_the_entry() {
     let section = cpus[0].enter().unwrap();
     let (retired, one) = refused(retired, Patience::Forever);
     drop(borrowed);
-    let (retired, two) = refused(retired, Patience::at_most(LONG));
+    let (retired, two) = refused(retired, Patience::from(LONG));
     drop((owned, section));
     assert_eq!([one, two], [RegistryError::StillHeld(Holder::Passive(0)); 2]);
     assert!(began.elapsed() < LONG);
     let (began, shortly) = (Instant::now(), Duration::from_millis(5));
-    let (retired, three) = refused(retired, Patience::at_most(shortly));
+    let (retired, three) = refused(retired, Patience::from(shortly));
     assert!(three == RegistryError::StillHeld(Holder::Local(1)) && began.elapsed() >= shortly);
     drop(held);
     assert_eq!(retired.destroy_on(&cpu, patience()).unwrap().value, 7);

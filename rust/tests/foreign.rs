@@ -3,11 +3,8 @@
 
 mod common;
 
-use common::{every_call, local, name, opened, passive, poll, waker, Drops, Task, Tracked, LONG};
-use kupaldiz::{
-    Cpu, CpuPool, DestroyError, Holder, Key, Kind, LocalRef, PassiveRc, PassiveRef, Patience,
-    ReadGuard, Registry, Retired, Settings,
-};
+use common::*;
+use kupaldiz::*;
 use std::cell::RefCell;
 use std::fmt::{self, Write};
 use std::mem;
@@ -204,9 +201,7 @@ const FREES: [(&str, Frees); 5] = [
     ("destroy", |cpu, retired| retired.destroy_on(cpu, Patience::Forever).is_ok()),
     ("poll", |_, mut retired| {
         let task = Task::here();
-        let polled = task.poll(&mut retired).is_ready();
-        assert!(!format!("{retired:?}").contains("entry") && task.woken() == 0);
-        polled
+        task.poll(&mut retired).is_ready() && task.woken() == 0
     }),
     ("drop", |_, retired| {
         drop(retired);
@@ -237,7 +232,7 @@ thread_local! {
 /// The very CPU whose call woke it.
 #[test]
 fn a_waker_may_use_the_cpu_that_woke_it() {
-    let (registry, mut cpus) = common::with_driver(7);
+    let (registry, mut cpus) = with_driver(7);
     let cpu = Rc::new(cpus.remove(0));
     OWN.with(|own| *own.borrow_mut() = Some(Rc::clone(&cpu)));
     let (held, section) = (cpu.get_rc("wm").unwrap(), cpu.enter().unwrap());
@@ -328,13 +323,20 @@ fn a_waker_may_panic_as_it_is_cloned_or_dropped() {
     scene.ends(cpus, 0, "wakers");
 }
 
-/// Runs code as it becomes a key.
-struct Keyed<F>(F);
+/// Runs code as it becomes what a call is given.
+struct Given<F>(F);
 
-impl<F: Fn()> From<Keyed<F>> for Key {
-    fn from(Keyed(code): Keyed<F>) -> Key {
+impl<F: Fn()> From<Given<F>> for Key {
+    fn from(Given(code): Given<F>) -> Key {
         code();
         Key::from("wm")
+    }
+}
+
+impl<F: Fn()> From<Given<F>> for Patience {
+    fn from(Given(code): Given<F>) -> Patience {
+        code();
+        Patience::Turns(1)
     }
 }
 
@@ -348,75 +350,56 @@ impl<F: Fn()> AsRef<Cpu<Tracked>> for Looked<'_, F> {
     }
 }
 
-/// Its panic is the call's, which drops what it was given, and has changed nothing.
+/// Before the call does anything: so it has no lock, and no CPU. A panic is the call's, which drops
+/// what it was given, and has changed nothing.
 #[test]
-fn a_closure_may_do_anything() {
+fn what_a_call_is_given_may_do_anything() {
+    const CALLS: usize = 33;
     for deed in DEEDS {
         let (scene, mut cpus) = Scene::open();
-        let (cpu, code) = (Rc::new(cpus.remove(1)), scene.code(deed));
-        let mapped = [
-            panics(|| drop(ReadGuard::map(cpu.read("wm").unwrap(), |value| (value, code()).0))),
-            panics(|| drop(PassiveRef::map(passive(&cpu, "wm"), |value| (value, code()).0))),
-            panics(|| drop(PassiveRc::map(cpu.get_rc("wm").unwrap(), |value| (value, code()).0))),
-            panics(|| drop(LocalRef::map(local(&cpu, "wm"), |value| (value, code()).0))),
-        ];
-        assert!(!cpu.is_inside() && !cpu.holds(1));
-        let pool = CpuPool::new([cpus.remove(1)]).unwrap();
-        let audited = panics(|| drop(scene.registry.audit([Looked(&cpu, &code)])));
-        let walked = panics(|| drop(scene.registry.audit(cpus.iter().inspect(|_| code()))));
-        drop(pool);
-        let pooled = panics(|| {
-            drop(CpuPool::new(
-                scene
-                    .registry
-                    .cpu(2)
-                    .into_iter()
-                    .chain([scene.registry.cpu(3).unwrap()])
-                    .inspect(|_| code()),
-            ))
-        });
-        assert!((2..=4).all(|id| scene.registry.cpu(id).is_some()));
-        let all = [&mapped[..], &[audited, walked, pooled]].concat();
-        assert!(all.iter().all(|one| *one == matches!(deed, Deed::Panics)), "{deed:?}: {all:?}");
-        drop((code, cpu));
-        scene.ends(cpus, 7 + usize::from(!matches!(deed, Deed::Panics)), "closures");
-    }
-}
-
-/// Before the call does anything: so it has no lock, and no CPU.
-#[test]
-fn what_becomes_a_key_may_do_anything() {
-    const CALLS: usize = 21;
-    for deed in DEEDS {
-        let (scene, cpus) = Scene::open();
-        let (registry, cpu, code) = (&scene.registry, &cpus[0], scene.code(deed));
-        let (key, value) = (|| Keyed(&code), || scene.drops.make(3));
+        let (registry, cpu, code) = (&scene.registry, Rc::new(cpus.remove(1)), scene.code(deed));
+        let (given, value) = (|| Given(&code), || scene.drops.make(3));
+        let token = || cpu.attach("late", value()).map(|_| cpu.detach("late").unwrap());
         let calls: [&dyn Fn(); CALLS] = [
-            &|| _ = registry.get(key()),
-            &|| _ = registry.look_up(key()),
-            &|| _ = registry.attach(key(), value()),
-            &|| _ = registry.attach_iface(key(), "wm0", value()),
-            &|| _ = registry.attach_iface("wm", key(), value()),
-            &|| _ = registry.replace(key(), value()),
-            &|| _ = registry.replace_iface(key(), "wm", value()),
-            &|| _ = registry.detach(key()),
-            &|| _ = registry.retire(key()),
-            &|| _ = cpu.get(key()),
-            &|| _ = cpu.get_local(key()),
-            &|| _ = cpu.read(key()),
-            &|| _ = cpu.look_up(key()),
-            &|| _ = cpu.enter().map(|section| section.find(key()).is_some()),
-            &|| _ = cpu.attach(key(), value()),
-            &|| _ = cpu.attach_iface("wm", key(), value()),
-            &|| _ = cpu.replace(key(), value()),
-            &|| _ = cpu.replace_iface("wm", key(), value()),
-            &|| _ = cpu.detach((Kind::Iface, key())),
-            &|| _ = cpu.detach(key()),
-            &|| _ = cpu.retire(key()),
+            &|| drop(ReadGuard::map(cpu.read("vga").unwrap(), |value| (value, code()).0)),
+            &|| drop(PassiveRef::map(passive(&cpu, "vga"), |value| (value, code()).0)),
+            &|| drop(PassiveRc::map(cpu.get_rc("vga").unwrap(), |value| (value, code()).0)),
+            &|| drop(LocalRef::map(local(&cpu, "vga"), |value| (value, code()).0)),
+            &|| drop(registry.audit([Looked(&cpu, &code)])),
+            &|| drop(registry.audit(cpus[..1].iter().inspect(|_| code()))),
+            &|| drop(CpuPool::new(registry.cpu(3).into_iter().inspect(|_| code()))),
+            &|| _ = registry.get(given()),
+            &|| _ = registry.look_up(given()),
+            &|| _ = registry.attach(given(), value()),
+            &|| _ = registry.attach_iface(given(), "wm0", value()),
+            &|| _ = registry.attach_iface("wm", given(), value()),
+            &|| _ = registry.replace(given(), value()),
+            &|| _ = registry.replace_iface(given(), "wm", value()),
+            &|| _ = registry.detach(given()),
+            &|| _ = registry.retire(given()),
+            &|| _ = cpu.get(given()),
+            &|| _ = cpu.get_local(given()),
+            &|| _ = cpu.read(given()),
+            &|| _ = cpu.look_up(given()),
+            &|| _ = cpu.enter().map(|section| section.find(given()).is_some()),
+            &|| _ = cpu.attach(given(), value()),
+            &|| _ = cpu.attach_iface("wm", given(), value()),
+            &|| _ = cpu.replace(given(), value()),
+            &|| _ = cpu.replace_iface("wm", given(), value()),
+            &|| _ = cpu.detach((Kind::Iface, given())),
+            &|| _ = cpu.detach(given()),
+            &|| _ = cpu.retire(given()),
+            &|| _ = token().unwrap().destroy(given()),
+            &|| _ = token().unwrap().destroy_on(&cpu, given()),
+            &|| _ = cpu.synchronize(given()),
+            &|| _ = registry.clone().close(given()),
+            &|| _ = registry.drain(given()),
         ];
         assert_eq!(calls.map(panics), [matches!(deed, Deed::Panics); CALLS], "{deed:?}");
-        drop(code);
-        scene.ends(cpus, CALLS, "keys");
+        assert!(!cpu.is_inside() && !cpu.holds(1) && !cpu.holds(2));
+        assert!((3..5).all(|id| registry.cpu(id).is_some()));
+        drop((code, cpu));
+        scene.ends(cpus, CALLS, "what is given");
     }
 }
 
@@ -585,36 +568,24 @@ fn a_drop_may_panic_as_the_registry_closes() {
     for (acts, last) in (0..4).flat_map(|acts| (0..6).map(move |last| (acts, last))) {
         let drops = Drops::default();
         let (registry, mut cpus, desks) = acting(&drops);
-        let held = cpus[0].get_local("d0").unwrap();
-        let token = cpus[0].detach("d1").unwrap();
-        let cpu = cpus.remove(1);
-        drop(cpus);
+        let mut held = cpus[0].get_local("d0").ok();
+        let mut token = cpus[0].detach("d1").ok();
+        let mut registry = Some(registry);
         for (_, desk) in desks.iter().enumerate().filter(|(place, _)| acts == 3 || acts == *place) {
             *desk.lock().unwrap() = Some(Box::new(move || panic!("a drop's own")));
         }
-        let mut all: Vec<Box<dyn FnOnce()>> =
-            vec![
-                Box::new(move || drop(held)),
-                Box::new(move || {
-                    if last == 5 {
-                        drop(token.destroy(Patience::Turns(1)))
-                    } else {
-                        drop(token)
-                    }
-                }),
-                Box::new(move || drop(cpu)),
-                Box::new(move || {
-                    if last == 4 {
-                        drop(registry.close(Patience::Turns(1)))
-                    } else {
-                        drop(registry)
-                    }
-                }),
-            ];
-        let last = all.remove(if last == 5 { 1 } else { last.min(3) });
-        let before = all.into_iter().map(panics).filter(|panicked| *panicked).count();
-        // Those of a token that goes before, and of the closing.
-        assert!((1..=2).contains(&(before + usize::from(panics(last)))));
+        let mut go = |handle| match handle {
+            0 => drop(held.take()),
+            1 => drop(token.take()),
+            2 => cpus.clear(),
+            3 => drop(registry.take()),
+            4 => drop(registry.take().map(|registry| registry.close(Patience::Turns(1)))),
+            _ => drop(token.take().map(|token| token.destroy(Patience::Turns(1)))),
+        };
+        let others = (0..4).filter(|handle| *handle != [0, 1, 2, 3, 3, 1][last]);
+        let panicked = others.chain([last]).filter(|handle| panics(|| go(*handle))).count();
+        // As a token goes before the others, and at the closing.
+        assert!((1..=2).contains(&panicked));
         assert_eq!((drops.made(), drops.dropped()), (3, 3));
     }
 }
@@ -703,7 +674,7 @@ fn a_loan_that_goes_back_wakes_no_task_of_what_was_forgotten_on_it() {
 /// It gives no CPU back.
 #[test]
 fn a_close_that_waits_wakes_nobody() {
-    let (registry, cpus) = common::with_driver(7);
+    let (registry, cpus) = with_driver(7);
     let (_held, task) = (local(&cpus[1], "wm"), Task::here());
     let mut wm = cpus[0].detach("wm").unwrap();
     assert!(task.poll(&mut wm).is_pending() && registry.close(Patience::Turns(9)).is_err());

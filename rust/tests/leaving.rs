@@ -3,11 +3,8 @@
 
 mod common;
 
-use common::{detach, local, opened, passive, with_driver, Drops, Task, LONG};
-use kupaldiz::Settings;
-use kupaldiz::{
-    Cpu, CpuPool, Found, Holder, Key, Kind, LocalRef, Name, PassiveRef, Patience, Registry,
-};
+use common::*;
+use kupaldiz::*;
 use std::panic::{catch_unwind, AssertUnwindSafe};
 use std::sync::atomic::{AtomicBool, AtomicU32, Ordering};
 use std::sync::mpsc::channel;
@@ -48,8 +45,7 @@ fn no_wake_is_lost_between_threads() {
     for (call, name) in CALLS.iter().flat_map(|call| [(call, WM), (call, WM0)]) {
         let (_registry, mut cpus) = opened(Settings::new(2, 8));
         let (mine, other) = (cpus.pop().unwrap(), cpus.pop().unwrap());
-        let (rounds, begun, ended) =
-            (common::scaled(250) as u32, AtomicU32::new(0), AtomicU32::new(0));
+        let (rounds, begun, ended) = (scaled(250) as u32, AtomicU32::new(0), AtomicU32::new(0));
         let wait_for = |count: &AtomicU32, round| {
             while count.load(Ordering::SeqCst) != round {
                 thread::yield_now();
@@ -99,7 +95,7 @@ const LOOKS: [Look; 6] = [
 #[test]
 fn a_name_that_is_replaced_is_never_bare() {
     for kind in [Kind::Driver, Kind::Iface] {
-        let (rounds, is_over) = (common::scaled(4_000) as u32, AtomicBool::new(false));
+        let (rounds, is_over) = (scaled(4_000) as u32, AtomicBool::new(false));
         let registry = Registry::open(Settings::new(LOOKS.len() as u8 + 2, 200)).unwrap();
         let mine = registry.any_cpu().unwrap();
         mine.attach(WM, 0).unwrap();
@@ -125,7 +121,7 @@ fn a_name_that_is_replaced_is_never_bare() {
                 match replaced {
                     Ok((_, old)) => assert!(old.entry().kind == kind),
                     // Readers that don't run hold the older ones.
-                    Err(full) => assert_eq!(full.refusal, kupaldiz::AttachError::NoSlot),
+                    Err(full) => assert_eq!(full.refusal, AttachError::NoSlot),
                 }
             }
             is_over.store(true, Ordering::Relaxed);
@@ -140,7 +136,7 @@ fn a_reference_may_be_cloned_anywhere() {
     let (registry, cpus) = with_driver(7);
     let held = local(&cpus[0], "wm");
     let mut gone = detach(&cpus[0], "wm");
-    let clone_all = || (0..common::scaled(1_000)).map(|_| held.clone()).collect::<Vec<_>>();
+    let clone_all = || (0..scaled(1_000)).map(|_| held.clone()).collect::<Vec<_>>();
     let mut clones: Vec<LocalRef<u32>> = thread::scope(|scope| {
         let threads = [(); 4].map(|()| scope.spawn(clone_all));
         threads.into_iter().flat_map(|thread| thread.join().unwrap()).collect()
@@ -166,7 +162,7 @@ fn threads_need_no_cpu_of_their_own() {
         for thread in 0..THREADS {
             let (registry, drops) = (&registry, &drops);
             scope.spawn(move || {
-                for round in 0..common::scaled(500) as u64 {
+                for round in 0..scaled(500) as u64 {
                     registry.attach(thread, drops.make(thread)).unwrap();
                     let held = registry.get(thread).unwrap();
                     let other = round % THREADS;
@@ -191,9 +187,7 @@ fn threads_need_no_cpu_of_their_own() {
 fn a_call_finds_a_cpu_while_handles_come_and_go() {
     let (registry, cpus) = with_wm();
     drop(registry);
-    let get = |cpu: Cpu<u32>| {
-        (0..common::scaled(5_000)).try_for_each(|_| cpu.registry().get(WM).map(drop))
-    };
+    let get = |cpu: Cpu<u32>| (0..scaled(5_000)).try_for_each(|_| cpu.registry().get(WM).map(drop));
     thread::scope(|scope| {
         let threads: Vec<_> = cpus.into_iter().map(|cpu| scope.spawn(move || get(cpu))).collect();
         threads.into_iter().for_each(|thread| assert_eq!(thread.join().unwrap(), Ok(())));
@@ -201,20 +195,10 @@ fn a_call_finds_a_cpu_while_handles_come_and_go() {
 }
 
 #[test]
-fn a_future_that_is_dropped_or_done_leaves_nothing_behind() {
+fn a_future_that_is_done_has_no_entry() {
     let (registry, cpus) = with_wm();
-    let reference = local(&cpus[0], "wm");
-    let mut retired = cpus[2].detach(WM).unwrap();
-    let task = Task::here();
-    assert!(task.poll(&mut retired).is_pending());
-    drop(retired);
-    assert_eq!(registry.deferred(), 1);
-    drop(reference);
-    assert_eq!(registry.free_deferred()[0].value, 7);
-
-    cpus[2].attach(WM, 8).unwrap();
-    let mut retired = cpus[2].detach(WM).unwrap();
-    assert_eq!(task.poll(&mut retired), Poll::Ready(8));
+    let (mut retired, task) = (cpus[2].detach(WM).unwrap(), Task::here());
+    assert_eq!(task.poll(&mut retired), Poll::Ready(7));
     assert!(!format!("{retired:?}").contains("entry"));
     assert!(catch_unwind(AssertUnwindSafe(|| retired.entry())).is_err());
     assert!(catch_unwind(AssertUnwindSafe(|| task.poll(&mut retired))).is_err());

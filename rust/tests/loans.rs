@@ -3,7 +3,7 @@
 
 mod common;
 
-use common::{opened, scaled, Dice, Task, LONG};
+use common::*;
 use kupaldiz::{CpuPool, LentCpu, Settings};
 use std::future::Future;
 use std::panic::{catch_unwind, AssertUnwindSafe};
@@ -159,7 +159,7 @@ impl<'pool> Bench<'pool> {
         }
         let (place, task, is_idle) =
             (self.dice.below(self.futures.len()), Task::here(), self.idle() > 0);
-        match common::poll(&mut self.futures[place].future, &Arc::clone(&task).into()) {
+        match poll(&mut self.futures[place].future, &Arc::clone(&task).into()) {
             Poll::Ready(lent) => {
                 assert!(is_idle);
                 self.own.push(lent);

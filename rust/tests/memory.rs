@@ -4,8 +4,8 @@
 
 mod common;
 
-use common::{local, name, opened, scaled, watched, with_driver};
-use kupaldiz::{DestroyError, Found, Holder, Kind, LocalRef, Patience, Settings};
+use common::*;
+use kupaldiz::*;
 use std::alloc::{GlobalAlloc, Layout, System};
 use std::cell::Cell;
 use std::ptr;

@@ -8,11 +8,8 @@
 
 mod common;
 
-use common::{name, scaled, why, Dice, Drops, Task, Tracked};
-use kupaldiz::{
-    Cpu, Entry, Found, Freed, Hold, Holder, Kind, LocalRef, Name, PassiveRef, Patience, ReadGuard,
-    Refused, Registry, RegistryError, Retired, Section, Settings,
-};
+use common::*;
+use kupaldiz::*;
 use std::cmp::Reverse;
 use std::collections::{BTreeSet, HashMap};
 use std::mem;
@@ -175,11 +172,8 @@ impl<'cpu> Bench<'cpu> {
 
     /// What holds a retired entry first. The value of an interface holds that of its driver.
     fn holder(&self, number: u64) -> Option<Holder> {
-        let values = self
-            .vacated
-            .iter()
-            .filter(|one| one.driver.map_or(false, |driver| driver.0 == number))
-            .count() as u64;
+        let is_on_it = |one: &&Known| one.driver.map_or(false, |driver| driver.0 == number);
+        let values = self.vacated.iter().filter(is_on_it).count() as u64;
         self.keeps_slot(number).or((values > 0).then_some(Holder::Local(values)))
     }
 
@@ -313,6 +307,16 @@ fn any_name(place: usize) -> Name {
     Name::from_bytes(&[0, place as u8, 0xff, b'-', 0]).unwrap()
 }
 
+/// Makes a call on a CPU, or on one that the crate chooses.
+macro_rules! on {
+    ($bench:ident, $at:ident, $call:ident($($word:expr),*)) => {
+        match $at {
+            Some(at) => $bench.cpus[at].$call($($word),*),
+            None => $bench.registry.$call($($word),*),
+        }
+    };
+}
+
 /// Lookups and references.
 impl<'cpu> Bench<'cpu> {
     fn any_cpu(&mut self) -> (usize, &'cpu Cpu<Tracked>) {
@@ -409,25 +413,24 @@ impl<'cpu> Bench<'cpu> {
     /// By one call.
     fn refer(&mut self) {
         let (at, (kind, name), way) = (self.any_or_chosen(), self.any_key(), self.dice.below(4));
-        let (key, cpu) = ((kind, &name), at.map(|at| &self.cpus[at]));
-        let found = self.found(kind, &name);
-        match (way, at, cpu) {
-            (0, Some(at), Some(cpu)) => {
+        let (key, found) = ((kind, &name), self.found(kind, &name));
+        match (way, at) {
+            (0, Some(at)) => {
                 let expected =
                     self.look(at, kind, &name).and_then(|entry| self.passively(at, entry));
-                self.keep(cpu.get(key).map_err(why), expected);
+                self.keep(self.cpus[at].get(key).map_err(why), expected);
             }
-            (1, Some(_), Some(cpu)) => {
-                let guard = cpu.read(key).map_err(why);
+            (1, Some(at)) => {
+                let guard = self.cpus[at].read(key).map_err(why);
                 assert_eq!(guard.as_ref().map(ReadGuard::entry).map_err(|why| *why), found);
                 guard.iter().for_each(|guard| guard.check());
             }
-            (2, ..) => {
-                let entry = cpu.map_or_else(|| self.registry.look_up(key), |cpu| cpu.look_up(key));
-                assert_eq!(entry.map_err(why), found);
-            }
+            (2, _) => assert_eq!(on!(self, at, look_up(key)).map_err(why), found),
             _ => {
-                let got = cpu.map_or_else(|| self.registry.get(key), |cpu| cpu.get_local(key));
+                let got = match at {
+                    Some(at) => self.cpus[at].get_local(key),
+                    None => self.registry.get(key),
+                };
                 if let Ok(entry) = found {
                     self.release_dropped(Some(entry.number));
                 }
@@ -482,18 +485,14 @@ impl<'cpu> Bench<'cpu> {
     fn attach(&mut self) {
         let (at, (kind, name)) = (self.any_or_chosen(), self.any_key());
         let (replaces, driver) = (self.dice.below(3) == 0, any_name(self.dice.below(self.names)));
-        let (registry, value, is_iface) = (self.registry, self.value(), kind == Kind::Iface);
+        let (value, is_iface) = (self.value(), kind == Kind::Iface);
         let alone = |made| (made, None);
         let both = |(made, old)| (made, Some(old));
-        let made = match (replaces, is_iface, at.map(|at| &self.cpus[at])) {
-            (false, false, Some(cpu)) => cpu.attach(name, value).map(alone),
-            (false, false, None) => registry.attach(name, value).map(alone),
-            (false, true, Some(cpu)) => cpu.attach_iface(driver, name, value).map(alone),
-            (false, true, None) => registry.attach_iface(driver, name, value).map(alone),
-            (true, false, Some(cpu)) => cpu.replace(name, value).map(both),
-            (true, false, None) => registry.replace(name, value).map(both),
-            (true, true, Some(cpu)) => cpu.replace_iface(driver, name, value).map(both),
-            (true, true, None) => registry.replace_iface(driver, name, value).map(both),
+        let made = match (replaces, is_iface) {
+            (false, false) => on!(self, at, attach(name, value)).map(alone),
+            (false, true) => on!(self, at, attach_iface(driver, name, value)).map(alone),
+            (true, false) => on!(self, at, replace(name, value)).map(both),
+            (true, true) => on!(self, at, replace_iface(driver, name, value)).map(both),
         };
         let kept = self.live(Kind::Driver, &driver).filter(|_| is_iface).map(|one| one.entry);
         let expected = self.before_attach(at).and_then(|()| {
@@ -527,19 +526,15 @@ impl<'cpu> Bench<'cpu> {
 
     fn detach(&mut self) {
         let (at, (kind, name)) = (self.any_or_chosen(), self.any_key());
-        let cpu = at.map(|at| &self.cpus[at]);
         let expected = self.before_change(at).and_then(|()| self.found(kind, &name));
-        let (registry, key, retires) = (self.registry, (kind, &name), self.dice.below(2) == 0);
+        let (key, retires) = ((kind, &name), self.dice.below(2) == 0);
         let (mut freed, by_entry) = (Vec::new(), expected.ok().filter(|_| self.dice.below(3) == 0));
         let token = if retires {
-            let all = cpu.map_or_else(|| registry.retire(key), |cpu| cpu.retire(key));
-            all.map(|all| freed = all).map(|()| None)
+            on!(self, at, retire(key)).map(|all| freed = all).map(|()| None)
         } else if let Some(entry) = by_entry {
-            let by =
-                cpu.map_or_else(|| registry.detach_entry(&entry), |cpu| cpu.detach_entry(&entry));
-            by.map(Some)
+            on!(self, at, detach_entry(&entry)).map(Some)
         } else {
-            cpu.map_or_else(|| registry.detach(key), |cpu| cpu.detach(key)).map(Some)
+            on!(self, at, detach(key)).map(Some)
         };
         let token = token.map_err(why);
         assert_eq!(token.as_ref().err(), expected.as_ref().err());
@@ -644,31 +639,23 @@ impl<'cpu> Bench<'cpu> {
 
     /// An interface goes before its driver.
     fn drain(&mut self) {
-        let (at, cpu) = self.any_cpu();
-        let drained = cpu.drain(Patience::Turns(1)).map_err(why);
-        assert_eq!(drained.as_ref().err().copied(), self.before_change(Some(at)).err());
-        if let Ok(drained) = drained {
-            let mut live: Vec<u64> =
-                self.known.iter().filter(|one| one.live).map(|one| one.entry.number).collect();
-            live.sort_unstable_by_key(|number| u64::MAX - number);
-            self.changes += live.len() as u64;
-            live.iter().for_each(|number| self.detached(*number));
-            let (mut freed, mut held) = (self.collect(), Vec::new());
-            for number in live {
-                match self.worked(number, Some(at)) {
-                    None => freed.push(number),
-                    Some(refusal) => held.push((number, refusal)),
-                }
+        let drained = self.registry.drain(Patience::Turns(1)).unwrap();
+        self.release_dropped(None);
+        let live = self.known.iter().filter(|one| one.live).map(|one| one.entry.number);
+        let live: BTreeSet<u64> = live.collect();
+        self.changes += live.len() as u64;
+        live.iter().for_each(|number| self.detached(*number));
+        let (mut freed, mut held) = (self.collect(), Vec::new());
+        for number in live.into_iter().rev() {
+            match self.worked(number, None) {
+                None => freed.push(number),
+                Some(refusal) => held.push((number, refusal)),
             }
-            freed.extend(self.collect());
-            let told: Vec<_> = drained
-                .held
-                .iter()
-                .map(|held| (held.given.entry().number, why(held.refusal)))
-                .collect();
-            assert_eq!((numbers(&drained.freed), told), (freed, held));
-            self.tokens.extend(drained.held.into_iter().map(|held| Token::new(held.given)));
         }
+        freed.extend(self.collect());
+        let told = drained.held.iter().map(|one| (one.given.entry().number, why(one.refusal)));
+        assert_eq!((numbers(&drained.freed), told.collect::<Vec<_>>()), (freed, held));
+        self.tokens.extend(drained.held.into_iter().map(|held| Token::new(held.given)));
     }
 
     fn audit(&mut self) {
@@ -778,7 +765,7 @@ fn run(seed: u64, steps: usize) {
         labels: 0,
         drivers: Vec::new(),
     };
-    drop(common::dropped_here());
+    drop(dropped_here());
     (0..steps).for_each(|_| bench.step());
     let drivers = mem::take(&mut bench.drivers);
     drop(bench);
@@ -786,7 +773,7 @@ fn run(seed: u64, steps: usize) {
     drop(cpus);
     registry.close(Patience::Turns(1)).unwrap();
     assert_eq!(drops.made(), drops.dropped());
-    let order: HashMap<u64, usize> = common::dropped_here().into_iter().zip(0..).collect();
+    let order: HashMap<u64, usize> = dropped_here().into_iter().zip(0..).collect();
     assert!(
         drivers.iter().all(|(iface, driver)| order[iface] < order[driver]),
         "a driver's value went before its interface's"

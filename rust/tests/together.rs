@@ -8,12 +8,8 @@
 
 mod common;
 
-use common::{name, opened, scaled, Dice, Drops, Tracked};
-use kupaldiz::{
-    AttachError, Cpu, DestroyError, Entry, Found, Holder, Kind, LocalRef, LookUpError, Name,
-    PassiveRef, Patience, ReadGuard, Refused, Registry, Retired, Settings, SynchronizeError,
-    LIMITS,
-};
+use common::*;
+use kupaldiz::*;
 use std::collections::BTreeSet;
 use std::sync::atomic::{AtomicU64, Ordering};
 use std::sync::Mutex;

@@ -25,16 +25,16 @@ prints_what_was_tried() {
 # So many runs are enough with the reduction, and no fewer: each touch of a step counts (tests/rules.py).
 compares_outcomes() {
     "$built/outcomes" 1 20 | tee "$said"
-    grep -q ' have the same outcomes by 2954 schedules as by 296361; ' "$said"
+    grep -q ' have the same outcomes by 2954 schedules as by 297101; ' "$said"
 }
 
-# The table of the README says what was printed.
+# The table of CASES.md says what was printed.
 drivers_as_told() {
     "$built/drivers" | "$folder/tests/told.py" drivers
 }
 
 run_example() {
-    gcc -c -g -fsanitize=thread -fmacro-prefix-map="$example/=" -DKUPALDIZ_EXPLORER -I$folder -Inetbsd/include -o "$example/test.o" "$example/test.c" &&
+    gcc -c -g -fsanitize=thread -fmacro-prefix-map="$example/=" -DKUPALDIZ_EXPLORER -I$folder -Iout/made/netbsd -o "$example/test.o" "$example/test.c" &&
         gcc -o "$example/a.out" "$example/test.o" "$built/libexplorer.a" -pthread && (cd "$example" && ./a.out)
 }
 
@@ -89,7 +89,7 @@ static void go(void *arg) { (void)arg; explorer_point(); }
 static void begin(void) { explorer_thread("one", go, NULL); }
 int main(void) { return explorer_run(begin, NULL); }
 C
-    { gcc "$@" -Inetbsd/include -I$folder -o "$room/plain" "$room/plain.c" "$built/libexplorer.a" -pthread && "$room/plain"; } 2>&1
+    { gcc "$@" -Iout/made/netbsd -I$folder -o "$room/plain" "$room/plain.c" "$built/libexplorer.a" -pthread && "$room/plain"; } 2>&1
 }
 
 refuses_other_file() {

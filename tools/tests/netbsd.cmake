@@ -3,9 +3,9 @@
 # misuse in a process of its own; many targets and counts; random programs against a model.
 group(netbsd)
 execute_process(COMMAND netbsd/named.sh WORKING_DIRECTORY ${TOP})
-file(GLOB headers RELATIVE ${TOP}/netbsd/include ${TOP}/netbsd/include/kupaldiz/*.h ${TOP}/netbsd/include/sys/*.h ${TOP}/netbsd/include/net/*.h)
+file(GLOB headers RELATIVE ${TOP}/out/made/netbsd ${TOP}/out/made/netbsd/kupaldiz/*.h ${TOP}/out/made/netbsd/sys/*.h ${TOP}/out/made/netbsd/net/*.h)
 foreach(header ${headers})
-    test("${header} alone, in four C standards" CALLS header_alone ${header} -Inetbsd/include)
+    test("${header} alone, in four C standards" CALLS header_alone ${header} -Iout/made/netbsd)
 endforeach()
 test("each line of the layer is in a test" COUNTED netbsd/tests/lines.py)
 test("each name that a driver may use, for the layer and for the explorer" COUNTED netbsd/tests/names.py gcc)

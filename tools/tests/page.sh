@@ -8,12 +8,12 @@ names() {
 }
 
 page_lints() {
-    mandoc -T lint man/*.[137] >"$said" 2>&1 && [ ! -s "$said" ] || { cat "$said"; return 1; }
+    mandoc -T lint man/*.[17] out/made/man/*.3 >"$said" 2>&1 && [ ! -s "$said" ] || { cat "$said"; return 1; }
 }
 
 # A header fits a window beside another one.
 header_is_narrow() {
-    ! expand "$header" c/include/*.h* | grep -nE '.{101}'
+    ! expand "$header" c/include/*.h* out/made/c/kupaldiz_*.h | grep -nE '.{101}'
 }
 
 strict_alone() {

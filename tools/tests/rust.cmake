@@ -18,8 +18,10 @@ function(cargo name)
 endfunction()
 
 cargo("Rust: the examples are built" SETS_UP rust-examples RUNS build --offline --release --examples)
+cargo("Rust: the bench's programs are built" SETS_UP rust-bench RUNS build --offline --release --manifest-path ../bench/rust/Cargo.toml)
 if(CLIPPY)
     cargo("Rust: no warning, and clippy says nothing" RUNS clippy --offline --all-targets -- -D warnings)
+    cargo("Rust: nor of the bench's programs" RUNS clippy --offline --manifest-path ../bench/rust/Cargo.toml -- -D warnings)
 else()
     cargo("Rust: no warning" WITH "RUSTFLAGS=-D warnings" RUNS check --offline --all-targets)
 endif()
@@ -47,7 +49,8 @@ test("Rust: compiled for other limits, nothing is opened" WITH ${OVER} CALLS ref
 test("Rust: over an archive of another version, nothing is compiled" WITH ${OVER} CALLS refuses_other_version)
 test("Rust: the stress where a yield does nothing" LOCKS cargo PROCESSORS 2 WITH ${OVER} KUPALDIZ_CHANGES=10 CALLS ends_without_yields)
 test("Rust: who_holds says what the README shows" NEEDS rust-examples CALLS who_holds_says ${EXAMPLES}/who_holds)
-programs(Rust: "" rust-examples ${EXAMPLES}/ smallest "speed 2 8 1000" "changes 20" "drops 2000")
+programs(Rust: "" rust-examples ${EXAMPLES}/ smallest)
+programs(Rust: "" rust-bench out/rust/release/ "speed 2 8 1000" "changes 20" "drops 2000")
 
 # The crate's examples, and what each prints last. Each asserts what it is about.
 set(LAST_packet "nobody sent by wm0 once it was taken out")

@@ -1,10 +1,10 @@
 -- Local references as C has them: what the calls beneath ensure of a reference, as the calls of C say it.
-use Rattle.std.proofs.Common.{◌≡◌, ℕ, false, Option, Some, Ok, Err, refl, ap, subst, ◌∙◌, inl, inr, ⊎_elim}
+use Rattle.std.proofs.Common.{◌≡◌, ℕ, false, Option, None, Some, Ok, Err, refl, ap, subst, ◌∙◌, inl, inr, ⊎_elim}
 use Rattle.std.specs.Prelude.{Result}
 use Rattle.c_calls.specs.Types.{Key, NotFound, Refusal, ReferenceView}
 use Rattle.passive_list.specs.Common.{OnCpu, OnPlainCpu}
-use Rattle.local_count.specs.{AcquiresEntryLocal, AnswersAcquireLocal, HasAcquired, HasComeBack}
-use Rattle.c_handles.specs.declared.values.plain.TheConstants.{COLLECTED}
+use Rattle.local_count.specs.{AcquiresEntryLocal, AnswersAcquireLocal, HasAcquired, HasComeBack, HasReleased}
+use Rattle.c_handles.specs.declared.values.plain.TheConstants.{COLLECTED, DONE}
 use Rattle.c_handles.specs.Bodies.{OnLocal, OnLocalBody}
 use Rattle.c_calls.specs.LocalCalls.{LocalReleases, ReleasesOn, ThroughLocal}
 use Rattle.c_calls.proofs.Handles.{no_body, one_body}
@@ -71,6 +71,14 @@ come_back a r b o back v l is some held given = ⊎_elim
             ∙ ap (λ (x : OnLocalBody). Some (record { held = record { table = x.table; reference = late.0 }; copied = false })) held),
       ));
     })
+    is.how
+
+-- and one that doesn't
+pub went : (a : OnPlainCpu) (r : OnLocalBody) (b : OnPlainCpu) (o : Option OnLocalBody) (v : OnLocal) (l : Option OnLocal) → ReleasesOn a r b o → o ≡ None → r ≡ v.held → l ≡ None
+    → LocalReleases a v b DONE l
+went a r b o v l is none held gone = ⊎_elim
+    (λ done. record { words = is.words; how = inl (refl, subst (λ (x : OnLocalBody). HasReleased a.cpu x.reference b.cpu) held done.0, gone) })
+    (λ late. absurd (no_body o (record { table = r.table; reference = late.0 }) late.2 none))
     is.how
 
 -- Through a handle and a reference

@@ -1,20 +1,21 @@
 -- Passive references as C has them: which of them are a CPU's own, and what the answers of the calls beneath are to C.
-use Rattle.std.proofs.Common.{◌≡◌, ◌≢◌, ℕ, Option, Some, None, Result, Ok, Err, IfOk, IfErr, refl, sym, ap, subst, ◌∙◌}
+use Rattle.std.proofs.Common.{◌≡◌, ◌≢◌, ℕ, Option, Some, None, Result, Ok, Err, IfOk, IfErr, refl, sym, ap, subst, ◌∙◌, ⊎_elim, arith}
 use Rattle.std.specs.Prelude.{◌<◌, nat_lt}
 use Rattle.std.proofs.lemmas.Bool.{eq-eqb, lt-ltb, ne_eqb}
 use Rattle.c_calls.specs.Types.{Entry, Key, Refusal, WrongCpu}
 use Rattle.registry_values.specs.Answers as answers
 use Rattle.registry_values.specs.Common.{number_of_refusal}
 use Rattle.cpu_words.specs.Common.{references_to}
-use Rattle.passive_list.specs.Common.{OnPlainCpu}
-use Rattle.passive_ref.specs.{AcquiresEntry, HasOneLess, OnPsref, why_not_copied, why_unusable}
-use Rattle.name_registry.specs.LookingUp.{Gets}
+use Rattle.passive_list.specs.Common.{OnCpu, OnPlainCpu}
+use Rattle.passive_list.specs.declared.lookup.Seen.{Seen}
+use Rattle.passive_ref.specs.{AcquiresEntry, GetsBy, HasOneLess, OnPsref, why_not_copied, why_unusable}
+use Rattle.name_registry.specs.LookingUp.{Gets, HasNotGot}
 use Rattle.c_handles.specs.declared.values.plain.TheConstants.{DONE}
 use Rattle.c_handles.specs.declared.values.plain.CEntry.{CEntry}
 use Rattle.c_handles.specs.declared.values.plain.CPassive.{CPassive}
 use Rattle.c_handles.specs.values.Texts.{entry_again, entry_out, no_passive, number_of}
 use Rattle.c_calls.specs.Calls.{Through}
-use Rattle.c_calls.specs.References.{AcquiresInside, CopiesHeld, GetsFor, ReleasesHeld, psref_of}
+use Rattle.c_calls.specs.References.{AcquiresInside, CopiesHeld, GetsFor, Releases, ReleasesHeld, psref_of}
 use Rattle.c_calls.proofs.Handles.{no_body, one_body}
 
 -- A call on the body that there is, through its handle
@@ -38,7 +39,16 @@ got_into key a b r i n old new own number gets same written words = record {
   words = words;
 }
 
--- and what an acquire gave
+-- A get that got nothing left the CPU's number
+
+same_by : (kept : Option Seen) (key : Key) (a c : OnCpu) → GetsBy kept key a c None → c.view.id ≡ a.view.id
+same_by None key a c had = ap (λ (x : OnCpu). x.view.id) had.1
+same_by (Some s) key a c had = ⊎_elim (λ full. ap (λ (x : OnCpu). x.view.id) full.0) (λ up. ap (λ (x : OnCpu). x.view.id) up.is) had
+
+pub same_id : (key : Key) (a c : OnCpu) → HasNotGot key a c → c.view.id ≡ a.view.id
+same_id key a c had = ⊎_elim (λ tried. same_by tried.1.0 key a c tried.1.2) (λ not. ap (λ (x : OnCpu). x.view.id) not.1) had
+
+-- What an acquire gave is written
 pub acquired_into : (e : CEntry) (key : Key) (a b : OnPlainCpu) (r : Result OnPsref Refusal) (i n : ℕ) (old new : CPassive) → i ≡ a.cpu.view.id → n ≡ number_of r → AcquiresEntry e.number key a.cpu b.cpu r
     → IfErr r (λ _. new ≡ old) → IfOk r (λ _. new ≡ record { entry = entry_again e; cpu = i }) → b.words ≡ a.words → AcquiresInside e key a b n old new
 acquired_into e key a b r i n old new own number had same written words = record {
@@ -79,3 +89,8 @@ pub released_at : (p : CPassive) (a b : OnPlainCpu) (new : CPassive) → p.cpu �
     → (0 < references_to p.entry.number a.cpu.view.references) × HasOneLess p.entry.number a.cpu b.cpu → new ≡ no_passive → ReleasesHeld p a b DONE new
 released_at p a b new own words had empty =
     record { r = Ok tt; is = refl; answer = (own_held p a own had.0, had.1); refused = tt; emptied = empty; words = words }
+
+-- through C's reference
+pub released_here : (p : CPassive) (a b : OnPlainCpu) (new : CPassive) → p.cpu ≡ a.cpu.view.id → b.words ≡ a.words → 0 < p.entry.number
+    → (0 < references_to p.entry.number a.cpu.view.references) × HasOneLess p.entry.number a.cpu b.cpu → new ≡ no_passive → Releases p a b DONE new
+released_here p a b new own words begun had empty = record { empty = λ none. absurd (omega (arith, none, begun)); held = λ _. released_at p a b new own words had empty }

@@ -1,10 +1,11 @@
 //! Local references, through the handles of a CPU and the keeper. C has a reference as a value: its entry, and a pointer to its block.
 
-ghost use Rattle.std.specs.Prelude.{◌≡◌, ◌≢◌, ◌<◌, Some, None, true, false, length};
-ghost use Rattle.cpu_words.specs.Common.{IsFoundCollected, key_with};
+ghost use Rattle.std.specs.Prelude.{◌≡◌, ◌≢◌, ◌<◌, IsTrue, Some, None, true, false, length};
+ghost use Rattle.cpu_words.specs.Common.{IsFoundCollected};
 ghost use Rattle.passive_list.specs.Common.{HasGivenUp};
 ghost use Rattle.c_handles.specs.Bodies.{IsReferenceOf, OnLocal, OnLocalBody};
 ghost use Rattle.c_handles.specs.Heap.{IsLong};
+ghost use Rattle.c_handles.specs.declared.values.plain.TheConstants.{DONE};
 ghost use Rattle.c_handles.specs.values.Texts.{entry_out};
 ghost use Rattle.c_handles.specs.OnHandle.{held_by};
 ghost use Rattle.c_calls.specs.Calls.{AreOfOne, IsOfCpu, IsOfKeeper, Through};
@@ -30,8 +31,9 @@ use cpu_words::steps::load_local;
 use local_count::{
     PlainRef, acquire_entry_local, acquire_last_local, release_under, try_release_on,
 };
+use name_registry::get_local_or;
 use passive_list::Keeper;
-use registry_values::{Key, Kind, MOST_SLOTS, Name, Refusal, is_retired_as, kind_word};
+use registry_values::{Key, MOST_SLOTS, Refusal, is_retired_as, kind_word};
 use std::alloc::Global;
 use std_alloc::room::Vacant;
 
@@ -82,14 +84,15 @@ fn get_asked(alloc: Global, cpu: &mut CpuBody, key: Key, local: &mut LocalHandle
     let Ok(room) = cpu.take_room(alloc) else {
         return refused(Refusal::NoMemory);
     };
-    match name_registry::get_local(&cpu.words, &mut cpu.cpu, key) {
-        Ok((seen, reference)) => {
+    let mut why = Refusal::NotFound;
+    match get_local_or(&cpu.words, &mut cpu.cpu, key, &mut why) {
+        Some((seen, reference)) => {
             local.give(LocalBody::of(reference, seen_out(key, seen), 0), room);
             DONE
         }
-        Err(refusal) => {
+        None => {
             cpu.keep_room(room);
-            refused(refusal)
+            refused(why)
         }
     }
 }
@@ -108,7 +111,68 @@ pub fn acquire_local(
     let Some(body) = cpu.body_mut() else {
         return entry.answer(EMPTY_HANDLE);
     };
-    let answer = acquire_given(alloc, body, entry.entry(), local);
+    if acquire_fast(body, entry.entry(), local) {
+        return entry.answer(DONE);
+    }
+    acquire_rest(alloc, body, entry, local)
+}
+
+/// The fast path of an acquire: of the last found entry, in the block that the CPU keeps, if nothing speaks against it. `false` says nothing, and
+/// nothing has changed.
+#[inline(always)]
+#[tactic(auto, using(crate::proofs::Asked::asks_good))]
+fn acquire_fast(cpu: &mut CpuBody, given: Option<CEntry>, local: &mut LocalHandle) -> bool
+    ensures done { IsTrue result → AcquiresLocal given cpu.old cpu.new DONE (held_by local.old) (held_by local.new) }
+    ensures none { result ≡ false → (cpu.new ≡ cpu.old) × (held_by local.new ≡ held_by local.old) }
+{
+    let Some(entry) = given else {
+        return false;
+    };
+    if !local.is_empty() {
+        return false;
+    }
+    match asked(kind_given(&entry), Some(entry.name)) {
+        Ok(key) => acquire_last_asked(cpu, key, entry.number, local),
+        Err(_) => false,
+    }
+}
+
+/// The same of an entry with that key. Condition: the handle is empty.
+#[inline(always)]
+fn acquire_last_asked(cpu: &mut CpuBody, key: Key, number: u64, local: &mut LocalHandle) -> bool
+    requires empty { held_by local.old ≡ None }
+    ensures done { IsTrue result → AcquiresLocalFor number key cpu.old cpu.new DONE (held_by local.old) (held_by local.new) }
+    ensures none { result ≡ false → (cpu.new ≡ cpu.old) × (held_by local.new ≡ held_by local.old) }
+{
+    // The contract alone speaks of the key.
+    let _key = key;
+    let Some(room) = cpu.take_kept() else {
+        return false;
+    };
+    match acquire_last_local(&cpu.words, &mut cpu.cpu, number) {
+        Some(reference) => {
+            give_acquired(&cpu.words, reference, room, local);
+            true
+        }
+        None => {
+            cpu.keep_room(room);
+            false
+        }
+    }
+}
+
+/// What an acquire does that its fast path didn't. It stands apart, so that the fast path saves no register for it.
+#[inline(never)]
+fn acquire_rest(
+    alloc: Global,
+    cpu: &mut CpuBody,
+    mut entry: GivenEntry,
+    local: &mut LocalHandle,
+) -> GivenEntryAnswer
+    ensures given { result.entry ≡ entry }
+    ensures call { AcquiresLocal entry.entry cpu.old cpu.new result.number (held_by local.old) (held_by local.new) }
+{
+    let answer = acquire_given(alloc, cpu, entry.entry(), local);
     entry.answer(answer)
 }
 
@@ -151,29 +215,22 @@ fn acquire_asked(
     let Ok(room) = cpu.take_room(alloc) else {
         return refused(Refusal::NoMemory);
     };
-    if let Some(reference) = acquire_last_local(&cpu.words, &mut cpu.cpu, number) {
-        give_acquired(&cpu.words, reference, room, local);
-        return DONE;
-    }
-    acquire_rest(cpu, key.kind, key.name, number, room, local)
+    acquire_inside(cpu, key, number, room, local)
 }
 
-/// What an acquire does that its fast path didn't answer. It stands apart, so that the fast path saves no register for it.
-/// Conditions: inside; the handle is empty.
-#[inline(never)]
-fn acquire_rest(
+/// The same in that block. Conditions: inside; the handle is empty.
+fn acquire_inside(
     cpu: &mut CpuBody,
-    kind: Kind,
-    name: Name,
+    key: Key,
     number: u64,
     room: Vacant<LocalBody, Global>,
     local: &mut LocalHandle,
 ) -> u32
     requires inside { cpu.old.cpu.view.begin ≢ None }
     requires empty { held_by local.old ≡ None }
-    ensures { AcquiresLocalInside number (key_with kind name) cpu.old cpu.new result (held_by local.new) }
+    ensures { AcquiresLocalInside number key cpu.old cpu.new result (held_by local.new) }
 {
-    match acquire_entry_local(&cpu.words, &mut cpu.cpu, number, kind, name) {
+    match acquire_entry_local(&cpu.words, &mut cpu.cpu, number, key.kind, key.name) {
         Ok(reference) => {
             give_acquired(&cpu.words, reference, room, local);
             DONE
@@ -246,19 +303,50 @@ pub fn try_release_local(alloc: Global, cpu: &mut CpuHandle, local: &mut LocalHa
     let Some(body) = cpu.body_mut() else {
         return EMPTY_HANDLE;
     };
+    if let Some((reference, room)) = local.take_own(alloc) {
+        return release_own(body, reference, room, local);
+    }
+    release_rest(alloc, cpu, local)
+}
+
+/// Releases a reference that had this block of its own. Conditions: the handle is empty; both are of one registry.
+#[inline(always)]
+fn release_own(
+    cpu: &mut CpuBody,
+    reference: LocalBody,
+    room: Vacant<LocalBody, Global>,
+    local: &mut LocalHandle,
+) -> u32
+    requires empty { held_by local.old ≡ None }
+    requires own { IsReferenceOf cpu.old.words reference }
+    ensures { (v : OnLocal) → reference ≡ v.held → LocalReleases cpu.old v cpu.new result (held_by local.new) }
+{
+    match release_local(cpu, reference) {
+        None => {
+            cpu.keep_room(room);
+            DONE
+        }
+        Some(back) => {
+            local.give(back, room);
+            COLLECTED
+        }
+    }
+}
+
+/// Releases what is behind a handle, however it has it. It stands apart, so that a release of a reference that was never copied saves no register
+/// for it.
+#[inline(never)]
+fn release_rest(alloc: Global, cpu: &mut CpuHandle, local: &mut LocalHandle) -> u32
+    requires { IsOfCpu cpu.old.body (held_by local.old) }
+    ensures { ThroughLocal cpu.old.body cpu.new.body (held_by local.old) (held_by local.new) result (λ a v b l. LocalReleases a v b result l) }
+{
+    let Some(body) = cpu.body_mut() else {
+        return EMPTY_HANDLE;
+    };
     match local.take(alloc) {
         LocalTaken::Nothing => EMPTY_HANDLE,
         LocalTaken::Share => DONE,
-        LocalTaken::Reference(reference, room) => match release_local(body, reference) {
-            None => {
-                body.keep_room(room);
-                DONE
-            }
-            Some(back) => {
-                local.give(back, room);
-                COLLECTED
-            }
-        },
+        LocalTaken::Reference(reference, room) => release_own(body, reference, room, local),
     }
 }
 

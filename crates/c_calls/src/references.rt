@@ -1,7 +1,7 @@
 //! Passive references, through a CPU's handle. C has a reference as a value: its entry, and the number of its CPU. The CPU judges it by its own
 //! counts, and the slot is where it looks first. So nothing that C has written there is trusted.
 
-ghost use Rattle.std.specs.Prelude.{◌≡◌, ◌≢◌, IfErr, IfOk, None};
+ghost use Rattle.std.specs.Prelude.{◌≡◌, ◌≢◌, IfErr, IfOk, IsTrue, None, false};
 ghost use Rattle.registry_values.specs.Common.{Answers};
 ghost use Rattle.passive_ref.specs.{HasOneLess, why_unusable};
 ghost use Rattle.c_handles.specs.declared.values.plain.TheConstants.{DONE};
@@ -27,7 +27,7 @@ use c_handles::values::plain::{
 };
 use name_registry::{get_fast, get_slow};
 use passive_list::Seen;
-use passive_ref::{Psref, acquire_entry, copy_on, held_on, release_at, release_on};
+use passive_ref::{Psref, acquire_entry, acquire_last, copy_on, held_on, release_at, release_on};
 use registry_values::{Key, Kind, Name, Refusal};
 
 /// `kupaldiz_get` of the header.
@@ -68,21 +68,21 @@ fn get_named(cpu: &mut CpuBody, kind: u32, name: Option<CName>, reference: &mut 
 fn get_asked(cpu: &mut CpuBody, key: Key, reference: &mut CPassive) -> u32
     ensures { GetsFor key cpu.old cpu.new result reference.old reference.new }
 {
-    let id = cpu.cpu.id();
     if let Some(got) = get_fast(&cpu.words, &mut cpu.cpu, key) {
-        return put_psref(got, key, id, reference);
+        return put_psref(got, key, reference);
     }
-    get_rest(cpu, key.kind, key.name, reference, id)
+    get_rest(cpu, key.kind, key.name, reference)
 }
 
-/// What a get does that its fast path didn't answer; `a` is the CPU before that, with the number `id`. It stands apart, so that the fast path saves
+/// What a get does that its fast path didn't answer; `a` is the CPU before that. It stands apart, so that the fast path saves
 /// no register for it.
 #[inline(never)]
-fn get_rest(cpu: &mut CpuBody, kind: Kind, name: Name, reference: &mut CPassive, id: u8) -> u32
-    ensures { (a : OnPlainCpu) → a.words ≡ cpu.old.words → id ≡ a.cpu.view.id → HasNotGot (key_with kind name) a.cpu cpu.old.cpu
+fn get_rest(cpu: &mut CpuBody, kind: Kind, name: Name, reference: &mut CPassive) -> u32
+    ensures { (a : OnPlainCpu) → a.words ≡ cpu.old.words → HasNotGot (key_with kind name) a.cpu cpu.old.cpu
         → GetsFor (key_with kind name) a cpu.new result reference.old reference.new }
 {
     let key = Key { kind, name };
+    let id = cpu.cpu.id();
     let got = get_slow(&cpu.words, &mut cpu.cpu, key);
     put_got(got, key, id, reference)
 }
@@ -94,24 +94,30 @@ fn put_got(got: Result<(Seen, Psref), Refusal>, key: Key, id: u8, reference: &mu
     ensures refused { IfErr (got_of key got) (λ _. reference.new ≡ reference.old) }
     ensures writes { IfOk (got_of key got) (λ g. reference.new ≡ record { entry = entry_out g.0; cpu = id }) }
 {
-    match got {
-        Ok(got) => put_psref(got, key, id, reference),
-        Err(refusal) => refused(refusal),
-    }
-}
-
-/// Writes the reference of this CPU, and returns `DONE`.
-#[inline(always)]
-fn put_psref(got: (Seen, Psref), key: Key, id: u8, reference: &mut CPassive) -> u32
-    ensures number { result ≡ DONE }
-    ensures writes { reference.new ≡ record { entry = entry_out (entry_with key got.0.slot got.0.number got.0.value); cpu = id } }
-{
-    let (seen, psref) = got;
+    let (seen, psref) = match got {
+        Ok(got) => got,
+        Err(refusal) => return refused(refusal),
+    };
     psref.forget();
     *reference = CPassive {
         entry: seen_out(key, seen),
         cpu: u64::from(id),
     };
+    DONE
+}
+
+/// Writes that reference, and returns `DONE`.
+#[inline(always)]
+fn put_psref(got: (Seen, Psref), key: Key, reference: &mut CPassive) -> u32
+    ensures number { result ≡ DONE }
+    ensures writes { reference.new ≡ record { entry = entry_out (entry_with key got.0.slot got.0.number got.0.value); cpu = got.1.cpu } }
+{
+    let (seen, psref) = got;
+    *reference = CPassive {
+        entry: seen_out(key, seen),
+        cpu: u64::from(psref.cpu()),
+    };
+    psref.forget();
     DONE
 }
 
@@ -128,7 +134,61 @@ pub fn acquire(
     let Some(body) = cpu.body_mut() else {
         return entry.answer(EMPTY_HANDLE);
     };
-    let answer = acquire_given(body, entry.entry(), reference);
+    if acquire_fast(body, entry.entry(), reference) {
+        return entry.answer(DONE);
+    }
+    acquire_rest(body, entry, reference)
+}
+
+/// The fast path of an acquire: of the last found entry, if nothing speaks against it. `false` says nothing, and nothing has changed.
+#[inline(always)]
+#[tactic(auto, using(crate::proofs::Asked::asks_good))]
+fn acquire_fast(cpu: &mut CpuBody, given: Option<CEntry>, reference: &mut CPassive) -> bool
+    ensures done { IsTrue result → Acquires given cpu.old cpu.new DONE reference.old reference.new }
+    ensures none { result ≡ false → (cpu.new ≡ cpu.old) × (reference.new ≡ reference.old) }
+{
+    let Some(entry) = given else {
+        return false;
+    };
+    if reference.entry.number != 0 {
+        return false;
+    }
+    match asked(kind_given(&entry), Some(entry.name)) {
+        Ok(key) => acquire_last_asked(cpu, key, entry, reference),
+        Err(_) => false,
+    }
+}
+
+/// The same of an entry with that key.
+#[inline(always)]
+fn acquire_last_asked(cpu: &mut CpuBody, key: Key, entry: CEntry, reference: &mut CPassive) -> bool
+    ensures done { IsTrue result → AcquiresFor entry key cpu.old cpu.new DONE reference.old reference.new }
+    ensures none { result ≡ false → (cpu.new ≡ cpu.old) × (reference.new ≡ reference.old) }
+{
+    // The contract alone speaks of the key.
+    let _key = key;
+    let Some(psref) = acquire_last(&cpu.words, &mut cpu.cpu, entry.number) else {
+        return false;
+    };
+    *reference = CPassive {
+        entry: entry_again(&entry),
+        cpu: u64::from(psref.cpu()),
+    };
+    psref.forget();
+    true
+}
+
+/// What an acquire does that its fast path didn't. It stands apart, so that the fast path saves no register for it.
+#[inline(never)]
+fn acquire_rest(
+    cpu: &mut CpuBody,
+    mut entry: GivenEntry,
+    reference: &mut CPassive,
+) -> GivenEntryAnswer
+    ensures given { result.entry ≡ entry }
+    ensures call { Acquires entry.entry cpu.old cpu.new result.number reference.old reference.new }
+{
+    let answer = acquire_given(cpu, entry.entry(), reference);
     entry.answer(answer)
 }
 
@@ -240,35 +300,53 @@ pub fn release(cpu: &mut CpuHandle, reference: &mut CPassive) -> u32
     let Some(body) = cpu.body_mut() else {
         return EMPTY_HANDLE;
     };
+    if release_fast(body, reference) {
+        return DONE;
+    }
+    release_rest(body, reference)
+}
+
+/// The fast path of a release: by its slot. `false` says nothing, and nothing has changed.
+#[inline(always)]
+#[tactic(auto, using(crate::proofs::Passives::released_here))]
+fn release_fast(cpu: &mut CpuBody, reference: &mut CPassive) -> bool
+    ensures done { IsTrue result → Releases reference.old cpu.old cpu.new DONE reference.new }
+    ensures none { result ≡ false → (cpu.new ≡ cpu.old) × (reference.new ≡ reference.old) }
+{
+    let own = u64::from(cpu.cpu.id());
+    if reference.cpu != own {
+        return false;
+    }
+    let slot = (reference.entry.slot % 256) as u8;
+    if release_at(&cpu.words, &mut cpu.cpu, slot, reference.entry.number) {
+        *reference = no_passive();
+        return true;
+    }
+    false
+}
+
+/// What a release does that its fast path didn't. It stands apart, so that the fast path saves no register for it.
+#[inline(never)]
+fn release_rest(cpu: &mut CpuBody, reference: &mut CPassive) -> u32
+    ensures { Releases reference.old cpu.old cpu.new result reference.new }
+{
     if reference.entry.number == 0 {
         return EMPTY_HANDLE;
     }
-    release_held(body, reference)
+    release_held(cpu, reference)
 }
 
-/// Releases a reference: by its slot, or else it is sought.
-#[inline(always)]
-#[tactic(auto, using(crate::proofs::Passives::released_at))]
+/// Releases a reference whose slot is sought, if it is this CPU's.
 fn release_held(cpu: &mut CpuBody, reference: &mut CPassive) -> u32
     ensures { ReleasesHeld reference.old cpu.old cpu.new result reference.new }
 {
     if reference.cpu != u64::from(cpu.cpu.id()) {
         return refused(Refusal::WrongCpu);
     }
-    if release_at(
-        &cpu.words,
-        &mut cpu.cpu,
-        (reference.entry.slot % 256) as u8,
-        reference.entry.number,
-    ) {
-        *reference = no_passive();
-        return DONE;
-    }
     release_sought(cpu, reference)
 }
 
-/// Releases a reference whose slot is sought. It stands apart, so that the others save no register for it.
-#[inline(never)]
+/// The same. Condition: it is.
 fn release_sought(cpu: &mut CpuBody, reference: &mut CPassive) -> u32
     requires own { reference.old.cpu ≡ cpu.old.cpu.view.id }
     ensures { ReleasesHeld reference.old cpu.old cpu.new result reference.new }

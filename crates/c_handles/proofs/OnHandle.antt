@@ -43,6 +43,12 @@ pub is_shared : (h : OnHandle) (b : Option OnLocalBody) (s : Option (Option OnLo
     → (x : OnLocal) × (held_by h ≡ Some x)
 is_shared h b s e o same is some = let had = shared_by b s e o is some in (had.0, sym same ∙ had.1)
 
+-- beside a block of its own there is none
+pub no_share : (b : Option OnLocalBody) (s : Option (Option OnLocalBody)) (e : CEntry) (v : OnLocalBody) → IsBeside b s e → b ≡ Some v → s ≡ None
+no_share None s e v is some = absurd (none-some v some)
+no_share (Some w) None e v is some = refl
+no_share (Some w) (Some share) e v is some = absurd is
+
 -- what giving a share up leaves is what was taken
 pub taken_share : (l : Option OnLocal) (share : Option OnLocalBody) (r : LocalTaken) → ((v : OnLocalBody) → share ≡ Some v → l ≡ Some (record { held = v; copied = true })) → IsTakenShare share r
     → IsTaken l r

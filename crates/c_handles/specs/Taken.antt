@@ -10,6 +10,11 @@ IsTaken l Nothing = l ≡ None
 IsTaken l Share = (v : OnLocal) × (l ≡ Some v) × (v.copied ≡ true)
 IsTaken l (Reference b room) = (v : OnLocal) × (l ≡ Some v) × (b ≡ v.held)
 
+-- the reference of one that has a block of its own; else the handle is as before
+abbrev pub IsTakenOwn : {X : Type 0} → Option OnLocal → Option OnLocal → Option (OnLocalBody × X) → Type 0
+IsTakenOwn l l' None = l' ≡ l
+IsTakenOwn l l' (Some taken) = (v : OnLocal) × (l ≡ Some v) × (taken.0 ≡ v.held) × (l' ≡ None)
+
 -- of a share
 abbrev pub IsTakenShare : Option OnLocalBody → LocalTaken → Type 0
 IsTakenShare shared Nothing = ⊥

@@ -71,6 +71,13 @@ impl CpuBody {
         self.spare.take(alloc)
     }
 
+    /// The block that the CPU keeps, if it keeps one.
+    pub fn take_kept(&mut self) -> Option<Vacant<LocalBody, Global>>
+        ensures { self.new ≡ self.old }
+    {
+        self.spare.take_kept()
+    }
+
     /// Keeps a block for the next local reference. One that the CPU kept already is freed.
     pub fn keep_room(&mut self, room: Vacant<LocalBody, Global>)
         ensures { self.new ≡ self.old }

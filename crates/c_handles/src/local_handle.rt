@@ -3,7 +3,7 @@
 ghost use Rattle.std.specs.Prelude.{◌≡◌, ◌<◌, ◌⊎◌, IfSome, Some, None, true, false, is_some};
 ghost use Rattle.c_handles.specs.Bodies.{OnLocal, OnLocalBody, as_copied};
 ghost use Rattle.c_handles.specs.OnHandle.{held_by};
-ghost use Rattle.c_handles.specs.Taken.{CopiesTo, IsTaken, IsTakenShare};
+ghost use Rattle.c_handles.specs.Taken.{CopiesTo, IsTaken, IsTakenOwn, IsTakenShare};
 
 use crate::copy_body::CopyBody;
 use crate::handle::{LocalBlock, LocalShare};
@@ -82,6 +82,16 @@ impl LocalHandle {
     {
         self.entry = body.entry();
         self.block.give(body, room);
+    }
+
+    /// Takes the reference out of a block of its own. All of the handle is 0 then. `None`: it has no such block, and is as before.
+    #[inline(always)]
+    pub fn take_own(&mut self, alloc: Global) -> Option<(LocalBody, Vacant<LocalBody, Global>)>
+        ensures { IsTakenOwn (held_by self.old) (held_by self.new) result }
+    {
+        let taken = self.block.take(alloc)?;
+        self.entry = no_entry();
+        Some(taken)
     }
 
     /// Takes the reference out, or the share of one. All of the handle is 0 then.

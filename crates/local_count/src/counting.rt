@@ -80,11 +80,15 @@ pub fn acquire_last_local(words: &Words, cpu: &mut PlainCpu, number: u64) -> Opt
     requires words { AreWordsOf words.now cpu.old.words.table cpu.old.words.settings }
     ensures acquired { IfSome result (λ v. AcquiresLastLocal number cpu.old.cpu cpu.new.cpu (Ok v) (λ v. v.reference)) }
     ensures none { result ≡ None → cpu.new.cpu ≡ cpu.old.cpu }
+    ensures inside { IfSome result (λ _. cpu.old.cpu.view.begin ≢ None) }
     ensures table { IfSome result (λ v. v.table ≡ cpu.old.words.table) }
     ensures slot { IfSome result (λ v. v.reference.entry.slot < cpu.old.words.settings.slots) }
     ensures words { cpu.new.words ≡ cpu.old.words }
 {
-    if !is_last_found(cpu, number) {
+    if number == 0 {
+        return None;
+    }
+    if !is_open_last(cpu, number) {
         return None;
     }
     match acquire_local_on(words, cpu) {
@@ -152,6 +156,16 @@ fn is_last_found(cpu: &PlainCpu, number: u64) -> bool
         return false;
     }
     found.number == number
+}
+
+/// Whether it is the one with that number, which is no entry's if it is 0. A CPU that has a last found entry is inside.
+#[inline(always)]
+fn is_open_last(cpu: &PlainCpu, number: u64) -> bool
+    requires begun { number ≢ 0 }
+    ensures yes { IsTrue result → IsLastFound cpu.now.cpu.view number }
+    ensures inside { IsTrue result → cpu.now.cpu.view.begin ≢ None }
+{
+    number == cpu.found.number
 }
 
 /// Why a CPU that names its own table may not acquire a local reference now, as `acquire_local` has it. Condition: the words are its table's.

@@ -1,5 +1,5 @@
 -- What a get of a local reference answers and leaves: a find, and a count for what it found, in the open section or in one of its own.
-use Rattle.std.specs.Prelude.{◌≡◌, ◌≢◌, Option, None, Result, Ok, Err}
+use Rattle.std.specs.Prelude.{◌≡◌, ◌≢◌, Option, None, Some, Result, Ok, Err}
 use Rattle.name_registry.specs.Types.{Entry, Key, Refusal, NotFound, ReferenceView, Seen}
 use Rattle.passive_list.specs.Common.{AnswersEnter, FindsInside, HasExitedOn, OnCpu, OnPlainRef}
 use Rattle.local_count.specs.{AnswersAcquireLocal}
@@ -14,6 +14,11 @@ reference_of (Err refusal) = Err refusal
 abbrev pub got_of : Result (Seen × OnPlainRef) Refusal → Result ReferenceView Refusal
 got_of (Ok got) = Ok got.1.reference
 got_of (Err refusal) = Err refusal
+
+-- what there is, or else the refusal beside it
+abbrev pub answer_of : {X : Type 0} → Option X → Refusal → Result X Refusal
+answer_of (Some x) refusal = Ok x
+answer_of None refusal = Err refusal
 
 -- or the entry
 abbrev pub got_with : Result (Entry × ReferenceView) Refusal → Result ReferenceView Refusal

@@ -1,10 +1,10 @@
 //! A local reference by name (localcount(9)): a lookup, and a count for what it found, in one section.
 
-ghost use Rattle.std.specs.Prelude.{◌≡◌, ◌≢◌, ◌<◌, IfOk, IsTrue, None};
+ghost use Rattle.std.specs.Prelude.{◌≡◌, ◌≢◌, ◌<◌, IfOk, IfSome, IsTrue, None};
 ghost use Rattle.registry_values.specs.Common.{are_fit};
 ghost use Rattle.protocol.specs.Common.{entry_with};
 ghost use Rattle.cpu_words.specs.Common.{AreWordsOf, key_with};
-ghost use Rattle.name_registry.specs.GettingLocal.{FindsAndCounts, GetsLocal, got_of, got_with};
+ghost use Rattle.name_registry.specs.GettingLocal.{FindsAndCounts, GetsLocal, answer_of, got_of, got_with};
 
 use crate::registry::Registry;
 use cpu_words::{Domain, Words};
@@ -39,7 +39,6 @@ impl<D: Domain> Registry<D> {
 }
 
 /// `Registry::get_local` on a CPU that names its own table. Returns the entry's words with the reference. Condition: the words are its table's.
-#[tactic(auto, using(crate::proofs::Counting::gets_inside, crate::proofs::Counting::gets_outside, crate::proofs::Counting::gets_refused))]
 pub fn get_local(words: &Words, cpu: &mut PlainCpu, key: Key) -> Result<(Seen, PlainRef), Refusal>
     requires words { AreWordsOf words.now cpu.old.words.table cpu.old.words.settings }
     ensures got { GetsLocal key cpu.old.cpu cpu.new.cpu (got_of result) }
@@ -49,38 +48,75 @@ pub fn get_local(words: &Words, cpu: &mut PlainCpu, key: Key) -> Result<(Seen, P
     ensures fit { IfOk result (λ _. IsTrue (are_fit cpu.old.words.settings)) }
     ensures words { cpu.new.words ≡ cpu.old.words }
 {
+    let mut why = Refusal::NotFound;
+    match get_local_or(words, cpu, key, &mut why) {
+        Some(got) => Ok(got),
+        None => Err(why),
+    }
+}
+
+/// `get_local`, which writes the refusal to `why`: so none lies over the reference's words, and they stay in registers.
+#[inline(always)]
+#[tactic(auto, using(crate::proofs::Counting::gets_inside, crate::proofs::Counting::gets_outside, crate::proofs::Counting::gets_refused))]
+pub fn get_local_or(
+    words: &Words,
+    cpu: &mut PlainCpu,
+    key: Key,
+    why: &mut Refusal,
+) -> Option<(Seen, PlainRef)>
+    requires words { AreWordsOf words.now cpu.old.words.table cpu.old.words.settings }
+    ensures got { GetsLocal key cpu.old.cpu cpu.new.cpu (got_of (answer_of result why.new)) }
+    ensures entry { IfSome result (λ got. (got.0.slot < MOST_SLOTS) × (entry_with key got.0.slot got.0.number got.0.value ≡ got.1.reference.entry)) }
+    ensures table { IfSome result (λ got. got.1.table ≡ cpu.old.words.table) }
+    ensures slot { IfSome result (λ got. got.1.reference.entry.slot < cpu.old.words.settings.slots) }
+    ensures fit { IfSome result (λ _. IsTrue (are_fit cpu.old.words.settings)) }
+    ensures words { cpu.new.words ≡ cpu.old.words }
+{
     if cpu.inside() {
-        return find_and_count(words, cpu, key);
+        return find_and_count(words, cpu, key, why);
     }
     match enter_on(words, cpu) {
         Ok(()) => {
-            let got = find_and_count(words, cpu, key);
+            let got = find_and_count(words, cpu, key, why);
             exit_on(words, cpu);
             got
         }
-        Err(refusal) => Err(refusal),
+        Err(refusal) => {
+            *why = refusal;
+            None
+        }
     }
 }
 
 /// Looks an entry up in the open section, and acquires a local reference to it.
+#[inline(always)]
 #[tactic(auto, using(crate::proofs::Counting::counts_none, crate::proofs::Driver::acquired_is, crate::proofs::Driver::begin_stays, crate::proofs::Driver::found_is))]
-fn find_and_count(words: &Words, cpu: &mut PlainCpu, key: Key) -> Result<(Seen, PlainRef), Refusal>
+fn find_and_count(
+    words: &Words,
+    cpu: &mut PlainCpu,
+    key: Key,
+    why: &mut Refusal,
+) -> Option<(Seen, PlainRef)>
     requires words { AreWordsOf words.now cpu.old.words.table cpu.old.words.settings }
     requires inside { cpu.old.cpu.view.begin ≢ None }
-    ensures got { FindsAndCounts key cpu.old.cpu cpu.new.cpu (got_of result) }
-    ensures entry { IfOk result (λ got. (got.0.slot < MOST_SLOTS) × (entry_with key got.0.slot got.0.number got.0.value ≡ got.1.reference.entry)) }
-    ensures table { IfOk result (λ got. got.1.table ≡ cpu.old.words.table) }
-    ensures slot { IfOk result (λ got. got.1.reference.entry.slot < cpu.old.words.settings.slots) }
-    ensures fit { IfOk result (λ _. IsTrue (are_fit cpu.old.words.settings)) }
+    ensures got { FindsAndCounts key cpu.old.cpu cpu.new.cpu (got_of (answer_of result why.new)) }
+    ensures entry { IfSome result (λ got. (got.0.slot < MOST_SLOTS) × (entry_with key got.0.slot got.0.number got.0.value ≡ got.1.reference.entry)) }
+    ensures table { IfSome result (λ got. got.1.table ≡ cpu.old.words.table) }
+    ensures slot { IfSome result (λ got. got.1.reference.entry.slot < cpu.old.words.settings.slots) }
+    ensures fit { IfSome result (λ _. IsTrue (are_fit cpu.old.words.settings)) }
     ensures inside { cpu.new.cpu.view.begin ≢ None }
     ensures words { cpu.new.words ≡ cpu.old.words }
 {
     let Some(seen) = find_inside_on(words, cpu, key.kind, key.name) else {
-        return Err(Refusal::NotFound);
+        *why = Refusal::NotFound;
+        return None;
     };
     match acquire_local_on(words, cpu) {
-        Ok(plain) => Ok((seen, plain)),
-        Err(refusal) => Err(refusal),
+        Ok(plain) => Some((seen, plain)),
+        Err(refusal) => {
+            *why = refusal;
+            None
+        }
     }
 }
 

@@ -33,7 +33,7 @@ pub use auditing::{audit_in, local_on};
 pub use blank::Blank;
 pub use destroying::advance_for;
 pub use first_fit::room_in;
-pub use getting_local::get_local;
+pub use getting_local::{get_local, get_local_or};
 pub use glancing::{begin, glance_at_all, pass_all};
 pub use law::{exact_audit, free_interlock, weights_law};
 pub use looking_up::{

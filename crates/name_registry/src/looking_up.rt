@@ -218,6 +218,7 @@ pub fn get_fast(words: &Words, cpu: &mut PlainCpu, key: Key) -> Option<(Seen, Ps
     ensures gets { IfSome result (λ got. Gets key cpu.old.cpu cpu.new.cpu (got_of key (Ok got))) }
     ensures missed { result ≡ None → HasNotGot key cpu.old.cpu cpu.new.cpu }
     ensures slot { IfSome result (λ got. got.0.slot < MOST_SLOTS) }
+    ensures own { IfSome result (λ got. got.1.cpu ≡ cpu.old.cpu.view.id) }
     ensures words { cpu.new.words ≡ cpu.old.words }
 {
     if may_begin_on(words, cpu) {

@@ -39,6 +39,10 @@ held_at x ps n t agree few number some =
     record { entry = one.entry; at = record { slot = place_of x ps t one.entry agree attached (number ∙ sym one.number); number = one.number }; held = one.among; attached = attached; few = few }
 
 -- it counts some
+-- no entry has number 0
+pub held_begun : (x : CpuView) (t n : ℕ) → IsHeldAt x t n → 0 < n
+held_begun x t n held = subst (λ m. 0 < m) held.at.number (attached_within x.pass held.entry held.attached).0
+
 pub held_counts : (x : CpuView) (ps : List NumberedCount) (n t : ℕ) → PassiveAgree x ps → IsHeldAt x t n → 0 < (place_at ps t).count
 held_counts x ps n t agree held =
     let number : (place_at ps t).number ≡ n = ap (λ u. (place_at ps u).number) (sym held.at.slot) ∙ (agree.each held.entry held.held).2 ∙ held.at.number in

@@ -1,9 +1,9 @@
 //! Passive references (psref(9)): acquired, copied and released on one CPU, by one step each on a word of its own.
 
-ghost use Rattle.std.specs.Prelude.{◌≡◌, ◌≢◌, ◌<◌, IfErr, IsTrue, None, false};
+ghost use Rattle.std.specs.Prelude.{◌≡◌, ◌≢◌, ◌<◌, IfErr, IfSome, IsTrue, None, Ok, false};
 ghost use Rattle.registry_values.specs.Common.{Answers};
 ghost use Rattle.cpu_words.specs.Common.{AreWordsOf, key_with, references_to};
-ghost use Rattle.passive_ref.specs.{AcquiresEntry, AcquiresSought, CopiesOwn, IsFoundLast, MayRefer, IsHeldAt, IsAcquired, IsCopied, IsAdded, HasOneLess, GivesBack, why_full, why_unusable, why_not_acquired, why_not_copied};
+ghost use Rattle.passive_ref.specs.{AcquiresEntry, AcquiresLast, AcquiresSought, CopiesOwn, IsFoundLast, MayRefer, IsHeldAt, IsAcquired, IsCopied, IsAdded, HasOneLess, GivesBack, why_full, why_unusable, why_not_acquired, why_not_copied};
 
 use crate::holding::{count_of, counts_at, slot_of, usable_slot};
 use crate::psref::Psref;
@@ -37,6 +37,29 @@ pub fn acquire_on(words: &Words, cpu: &mut PlainCpu) -> Result<Psref, Refusal>
         return Err(Refusal::NothingFound);
     }
     add(words, cpu, found.slot, found.number)
+}
+
+/// The fast path of `acquire_entry`: acquires a passive reference to the last found entry, if that has this number and the CPU may have one more.
+/// Its fields stay in registers, since there is no refusal beside them. `None` says nothing, and the CPU is as before: `acquire_entry` follows.
+/// Condition: the words are the CPU's table's.
+#[inline(always)]
+pub fn acquire_last(words: &Words, cpu: &mut PlainCpu, number: u64) -> Option<Psref>
+    requires words { AreWordsOf words.now cpu.old.words.table cpu.old.words.settings }
+    ensures acquired { IfSome result (λ p. AcquiresLast number cpu.old.cpu cpu.new.cpu (Ok p)) }
+    ensures inside { IfSome result (λ _. cpu.old.cpu.view.begin ≢ None) }
+    ensures none { result ≡ None → cpu.new.cpu ≡ cpu.old.cpu }
+    ensures words { cpu.new.words ≡ cpu.old.words }
+{
+    if number == 0 {
+        return None;
+    }
+    if !is_open_last(cpu, number) {
+        return None;
+    }
+    match acquire_on(words, cpu) {
+        Ok(psref) => Some(psref),
+        Err(_) => None,
+    }
 }
 
 /// Acquires a passive reference to the entry with that number, and to no other entry: to the last found entry, if it is that one; by the CPU's own
@@ -102,6 +125,16 @@ fn is_found_last(cpu: &PlainCpu, number: u64) -> bool
         return false;
     }
     found.number == number
+}
+
+/// Whether it is the one with that number, which is no entry's if it is 0. A CPU that has a last found entry is inside.
+#[inline(always)]
+fn is_open_last(cpu: &PlainCpu, number: u64) -> bool
+    requires begun { number ≢ 0 }
+    ensures yes { IsTrue result → IsFoundLast cpu.now.cpu.view number }
+    ensures inside { IsTrue result → cpu.now.cpu.view.begin ≢ None }
+{
+    number == cpu.found.number
 }
 
 /// Acquires one more reference to an entry of that slot that the CPU refers to.
@@ -175,9 +208,11 @@ pub fn release_on(words: &Words, cpu: &mut PlainCpu, psref: Psref) -> Result<(),
 /// Releases a reference to that number if the slot `hint` has the entry that it is to, and returns whether it did. `false` says nothing, and nothing
 /// has changed. Condition: the words are the CPU's table's.
 #[inline(always)]
+#[tactic(auto, using(crate::proofs::Changing::held_begun))]
 pub fn release_at(words: &Words, cpu: &mut PlainCpu, hint: u8, number: u64) -> bool
     requires words { AreWordsOf words.now cpu.old.words.table cpu.old.words.settings }
     ensures released { IsTrue result → (0 < references_to number cpu.old.cpu.view.references) × HasOneLess number cpu.old.cpu cpu.new.cpu }
+    ensures begun { IsTrue result → 0 < number }
     ensures refused { result ≡ false → cpu.new ≡ cpu.old }
     ensures words { cpu.new.words ≡ cpu.old.words }
 {

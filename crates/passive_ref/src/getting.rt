@@ -2,7 +2,7 @@
 //! own and one load of the slot's live word. If that is the entry's number, the addition is a reference. Else it is taken back, and the caller
 //! goes the usual way, by a section.
 
-ghost use Rattle.std.specs.Prelude.{◌≡◌, ◌<◌, IfSome, Some, length};
+ghost use Rattle.std.specs.Prelude.{◌≡◌, ◌+◌, ◌^◌, ◌<◌, IfSome, Some, length};
 ghost use Rattle.protocol.specs.Common.{IsLookup, entry_with};
 ghost use Rattle.cpu_words.specs.Common.{AreWordsOf, IsShownCpu, MayTry, key_with};
 ghost use Rattle.passive_list.specs.Common.{HasSeen as HasSeenOf};
@@ -26,6 +26,7 @@ pub fn get_on(words: &Words, cpu: &mut PlainCpu, slot: u8, number: u64) -> Optio
     requires slot { slot < MOST_SLOTS }
     requires seen { HasSeen cpu.old.cpu.view slot number }
     ensures got { HasGotOn slot number cpu.old.cpu cpu.new.cpu result }
+    ensures own { IfSome result (λ psref. psref.cpu ≡ cpu.old.cpu.view.id) }
     ensures words { cpu.new.words ≡ cpu.old.words }
 {
     if cpu.passive[slot as usize].count >= words.settings().passive_limit {
@@ -33,12 +34,7 @@ pub fn get_on(words: &Words, cpu: &mut PlainCpu, slot: u8, number: u64) -> Optio
     }
     let done = try_on_seat(words, &mut cpu.seat, cpu.id, slot, number);
     if done {
-        // Loaded anew: a register that is kept over the addition costs more.
-        let place = cpu.passive[slot as usize];
-        cpu.passive[slot as usize] = NumberedCount {
-            number,
-            count: counted_for(place, number) + 1,
-        };
+        count_one(&mut cpu.passive[slot as usize], number);
         return Some(Psref {
             cpu: cpu.id,
             hint: slot,
@@ -60,6 +56,7 @@ pub fn get_by_memory(
     requires words { AreWordsOf words.now cpu.old.words.table cpu.old.words.settings }
     ensures got { HasGotByMemory (key_with kind name) cpu.old.cpu cpu.new.cpu result }
     ensures slot { IfSome result (λ got. got.0.slot < MOST_SLOTS) }
+    ensures own { IfSome result (λ got. got.1.cpu ≡ cpu.old.cpu.view.id) }
     ensures words { cpu.new.words ≡ cpu.old.words }
 {
     let seen = remembered(cpu, kind, name)?;
@@ -73,6 +70,7 @@ fn get_seen(words: &Words, cpu: &mut PlainCpu, kind: Kind, name: Name, seen: See
     requires words { AreWordsOf words.now cpu.old.words.table cpu.old.words.settings }
     requires seen { HasSeenOf cpu.old (key_with kind name) seen }
     ensures got { HasGotOn seen.slot seen.number cpu.old.cpu cpu.new.cpu result }
+    ensures own { IfSome result (λ psref. psref.cpu ≡ cpu.old.cpu.view.id) }
     ensures answered { IfSome result (λ _. IsLookup cpu.new.cpu.view.pass (length cpu.new.cpu.view.pass) (key_with kind name) (Some (entry_with (key_with kind name) seen.slot seen.number seen.value))) }
     ensures words { cpu.new.words ≡ cpu.old.words }
 {
@@ -103,13 +101,16 @@ fn try_on_seat(words: &Words, seat: &mut CpuSeat, cpu: u8, slot: u8, number: u64
     false
 }
 
-/// What a place counts for that number.
-fn counted_for(place: NumberedCount, number: u64) -> u64
-    ensures { result ≡ counted_for number place }
+/// Counts one more reference to the entry with that number in the place of its slot.
+#[inline(always)]
+fn count_one(place: &mut NumberedCount, number: u64)
+    requires room { place.old.count + 1 < 2 ^ 64 }
+    ensures { place.new ≡ record { number = number; count = counted_for number place.old + 1 } }
 {
     if place.number == number {
-        place.count
-    } else {
-        0
+        place.count += 1;
+        return;
     }
+    place.number = number;
+    place.count = 1;
 }

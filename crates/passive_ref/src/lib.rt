@@ -15,7 +15,8 @@ mod psref;
 mod reading;
 
 pub use acquiring::{
-    acquire, acquire_entry, acquire_on, copy, copy_on, release, release_at, release_on,
+    acquire, acquire_entry, acquire_last, acquire_on, copy, copy_on, release, release_at,
+    release_on,
 };
 pub use getting::{get_by_memory, get_on};
 pub use holding::{held, held_on};

@@ -97,7 +97,7 @@ static inline bool cpu_intr_p(void) { return false; }
 bool cpu_softintr_p(void);
 
 #define KUPALDIZ_PLACES_OF_CPU
-#include "places.h"
+#include <kupaldiz/places.h>
 
 __END_DECLS
 #endif

@@ -183,7 +183,7 @@ int copyinstr(const void *user, void *kernel, size_t length, size_t *copied);
 int copyoutstr(const void *kernel, void *user, size_t length, size_t *copied);
 
 #define KUPALDIZ_PLACES_OF_KERNEL
-#include "places.h"
+#include <kupaldiz/places.h>
 
 /* ---- evcnt(9): counters with names. They are attached by being used. ---- */
 

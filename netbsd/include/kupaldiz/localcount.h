@@ -76,7 +76,7 @@ void localcount_release(struct localcount *lc, kcondvar_t *cv, kmutex_t *interlo
 uint32_t localcount_debug_refcnt(const struct localcount *lc);
 
 #define KUPALDIZ_PLACES_OF_LOCALCOUNT
-#include "places.h"
+#include <kupaldiz/places.h>
 
 __END_DECLS
 #endif

@@ -156,7 +156,7 @@ int rw_write_held(krwlock_t *rw);
 int rw_lock_held(krwlock_t *rw);
 
 #define KUPALDIZ_PLACES_OF_LOCKS
-#include "places.h"
+#include <kupaldiz/places.h>
 
 __END_DECLS
 #endif

@@ -122,7 +122,7 @@ void percpu_foreach(percpu_t *percpu, percpu_callback_t look, void *arg);
 void percpu_foreach_xcall(percpu_t *percpu, unsigned flags, percpu_callback_t look, void *arg);
 
 #define KUPALDIZ_PLACES_OF_MEMORY
-#include "places.h"
+#include <kupaldiz/places.h>
 
 __END_DECLS
 #endif

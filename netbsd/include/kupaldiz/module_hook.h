@@ -26,7 +26,7 @@ bool module_hook_tryenter(const bool *hooked, struct localcount *lc);
 void module_hook_exit(struct localcount *lc);
 
 #define KUPALDIZ_PLACES_OF_MODULE_HOOK
-#include "places.h"
+#include <kupaldiz/places.h>
 
 /* MODULE_HOOK_SET - from now on calls of the hook call the function. Stops where the hook is set, and where the thread mustn't sleep. */
 #define MODULE_HOOK_SET(hook, function) \

@@ -62,7 +62,7 @@ bool pserialize_in_read_section(void);
 bool pserialize_not_in_read_section(void);
 
 #define KUPALDIZ_PLACES_OF_PSERIALIZE
-#include "places.h"
+#include <kupaldiz/places.h>
 
 __END_DECLS
 #endif

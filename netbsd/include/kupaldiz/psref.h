@@ -93,7 +93,7 @@ void psref_copy(struct psref *to, const struct psref *from, struct psref_class *
 bool psref_held(const struct psref_target *target, struct psref_class *psref_class);
 
 #define KUPALDIZ_PLACES_OF_PSREF
-#include "places.h"
+#include <kupaldiz/places.h>
 
 __END_DECLS
 #endif

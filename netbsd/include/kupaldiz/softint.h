@@ -148,7 +148,7 @@ bool callout_invoking(callout_t *callout);
 void callout_ack(callout_t *callout);
 
 #define KUPALDIZ_PLACES_OF_SOFTINT
-#include "places.h"
+#include <kupaldiz/places.h>
 
 __END_DECLS
 #endif

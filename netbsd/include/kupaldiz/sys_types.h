@@ -13,7 +13,7 @@
 #include <stdint.h>
 #include <string.h>
 
-#include "names.h"
+#include <kupaldiz/names.h>
 
 __BEGIN_DECLS
 

@@ -50,7 +50,7 @@ void workqueue_wait(struct workqueue *queue, struct work *work);
 void workqueue_destroy(struct workqueue *queue);
 
 #define KUPALDIZ_PLACES_OF_WORKQUEUE
-#include "places.h"
+#include <kupaldiz/places.h>
 
 __END_DECLS
 #endif

@@ -80,7 +80,7 @@ static inline int m_length(const struct mbuf *mbuf)
 }
 
 #define KUPALDIZ_PLACES_OF_MBUF
-#include "../kupaldiz/places.h"
+#include <kupaldiz/places.h>
 
 __END_DECLS
 

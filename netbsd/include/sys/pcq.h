@@ -69,7 +69,7 @@ static inline void *pcq_get(pcq_t *pcq)
 }
 
 #define KUPALDIZ_PLACES_OF_PCQ
-#include "../kupaldiz/places.h"
+#include <kupaldiz/places.h>
 
 __END_DECLS
 

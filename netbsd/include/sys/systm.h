@@ -78,7 +78,7 @@ static inline void *hashinit(unsigned elements, enum hashtype type, bool waits, 
 static inline void hashdone(void *table, enum hashtype type, unsigned long mask) { (kmem_free)(table, kupaldiz_hash_size(type, mask)); }
 
 #define KUPALDIZ_PLACES_OF_SYSTM
-#include "../kupaldiz/places.h"
+#include <kupaldiz/places.h>
 
 /* log, aprint_normal and its like - print on standard error; in the explorer, nothing. */
 static inline void __attribute__((format(printf, 2, 3))) kupaldiz_log(int level, const char *format, ...)

@@ -3,10 +3,7 @@
 
 pub mod watched;
 
-use kupaldiz::{
-    Cpu, DestroyError, Found, Freed, Holder, Kind, LocalRef, Name, PassiveRef, Patience, Refused,
-    Registry, RegistryError, Retired, Settings,
-};
+use kupaldiz::*;
 use std::cell::RefCell;
 use std::future::Future;
 use std::mem;
@@ -44,8 +41,8 @@ pub fn why(error: impl Into<RegistryError>) -> RegistryError {
 pub const LONG: Duration = Duration::from_secs(20);
 
 /// A patience that ends, so that a test fails where it would wait for ever.
-pub fn patience() -> kupaldiz::Patience {
-    kupaldiz::Patience::at_most(LONG)
+pub fn patience() -> Patience {
+    Patience::from(LONG)
 }
 
 /// So many steps, or KUPALDIZ_CHANGES of each hundred: few where a tool watches each access.
@@ -251,8 +248,8 @@ pub fn every_call<T>(registry: &Registry<T>, cpu: &Cpu<T>, value: impl Fn() -> T
     assert!(cpu.get("inner").is_ok() && cpu.look_up((Kind::Iface, "inner0")).is_ok());
     assert!(cpu.get_local("inner").map(|local| drop(local.clone())).is_ok());
     let chosen = registry.get("inner").map(drop);
-    assert!(chosen.is_ok() || chosen == Err(kupaldiz::LookUpError::NoCpu));
-    assert_eq!(registry.audit([cpu]).map(drop), Err(kupaldiz::CpusError::MissingCpu));
+    assert!(chosen.is_ok() || chosen == Err(LookUpError::NoCpu));
+    assert_eq!(registry.audit([cpu]).map(drop), Err(CpusError::MissingCpu));
     let _ = cpu.synchronize(Patience::Turns(1));
     let (_, old) = cpu.replace("inner", value()).unwrap();
     assert!(registry.clone().close(Patience::Turns(1)).is_err());

@@ -41,6 +41,13 @@ impl<T> Spare<T> {
         }
     }
 
+    /// The block that was kept, if one was.
+    pub fn take_kept(&mut self) -> Option<Vacant<T, Global>>
+        ensures after { self.new ≡ false }
+    {
+        self.room.take()
+    }
+
     /// Keeps the block. One that was kept already is freed.
     pub fn keep(&mut self, room: Vacant<T, Global>)
         ensures { self.new ≡ true }

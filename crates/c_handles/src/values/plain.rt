@@ -112,11 +112,11 @@ pub fn answered(answer: Result<(), Refusal>) -> u32
 pub fn kind_in(word: u32) -> Option<Kind>
     ensures { result ≡ kind_in word }
 {
-    if word == 1 {
-        return Some(Kind::Iface);
-    }
     if word == 2 {
         return Some(Kind::Driver);
+    }
+    if word == 1 {
+        return Some(Kind::Iface);
     }
     None
 }

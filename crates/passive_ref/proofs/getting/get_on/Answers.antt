@@ -1,8 +1,8 @@
 -- The data agree with the view, whether the CPU has its reference or not.
-use Rattle.std.proofs.Common.{◌<◌, ◌∙◌, arith, inr, rules, refl, sym, ap, subst}
+use Rattle.std.proofs.Common.{◌<◌, ◌∙◌, arith, inr, rules, refl, set, sym, ap, subst}
 use Rattle.passive_list.specs.Types.{Settings}
 use Rattle.passive_list.specs.declared.place.NumberedCount.{NumberedCount}
-use Rattle.passive_list.specs.Common.{OnPlainCpu}
+use Rattle.passive_list.specs.Common.{IsOurCpu, OnPlainCpu}
 use Rattle.passive_list.proofs.Agreeing.{place_is}
 use Rattle.passive_ref.specs.{HasSeen, HasTriedOnSeat, counted_for}
 use Rattle.passive_ref.proofs.Gets.{given_on, got_on, may_try, taken_agrees, vain_agrees}
@@ -24,8 +24,11 @@ pub invariant_of-cpu : goal.invariant_of-cpu
 invariant_of-cpu c =
     let had = subst (HasTriedOnSeat c.args.slot c.args.number _ _ _ _) c.if-done.true c.try_on_seat-done.ensures.tried in
     let seen = subst (λ (o : OnPlainCpu). HasSeen o.cpu.view c.args.slot c.args.number) (sym c.cpu.view_is) c.requires.seen in
-    taken_agrees _ _ _ _ _ _ _ _ _ _ _ _ _ _ _ _ c.cpu.invariant c.try_on_seat-done.ensures.is_shown c.try_on_seat-done.ensures.table seen.slots had.0
-    (c.counted_for.ensures ∙ ap (counted_for c.args.number) (place_is _ c.args.slot _ c.index-place.ensures (omega (arith, seen.slots, c.cpu.invariant.passive.size))))
+    let i = c.cpu.inside in
+    let seat = c.try_on_seat-done.new.seat in
+    let here = place_is i.passive.items c.args.slot _ c.index_mut.ensures.value (omega (arith, seen.slots, c.cpu.invariant.passive.size)) in
+    subst (λ (p : NumberedCount). IsOurCpu seat.table seat.view.settings seat.table seat.view i.id i.ended i.depth i.found (set i.passive.items c.args.slot p) i.net.items i.memory) (sym c.count_one.ensures)
+    (taken_agrees _ _ _ _ _ _ _ _ _ _ _ _ _ _ _ _ c.cpu.invariant c.try_on_seat-done.ensures.is_shown c.try_on_seat-done.ensures.table seen.slots had.0 (ap (counted_for c.args.number) here))
 
 pub invariant_of-cpu-else-done : goal.invariant_of-cpu-else-done
 invariant_of-cpu-else-done c =

@@ -1,6 +1,6 @@
 //! `changes COUNT`: what each call behind the interlock takes, through this crate, on one thread.
 //!
-//! The calls, their order and the line are those of `c/tests/changes.c` of the repository.
+//! The calls, their order and the line are those of `bench/changes.c`.
 
 use kupaldiz::{
     Cpu, DestroyError, Freed, Holder, LocalRef, Name, Patience, Refused, Registry, RegistryError,

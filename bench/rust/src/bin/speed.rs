@@ -4,8 +4,8 @@
 //! `lookup` reads what the entry found carries, a number in a block of its own; `batch` does so in
 //! an open section, 32 times a section. `read` is `lookup` by a guard, which is two calls;
 //! `look_up` is one call, and reads the entry's number; `get` gets a reference by one call, reads
-//! what the entry carries, and releases it. The operations are those of `bench/` of the repository,
-//! whose README says what one is. It prints a line as the programs there do.
+//! what the entry carries, and releases it. bench/README.md says what an operation
+//! is. It prints a line as the programs there do.
 
 use kupaldiz::{
     Cpu, Found, LocalRef, Name, PassiveRef, Registry, RegistryError, Section, Settings,
