@@ -9,16 +9,17 @@ tools/tests/CMakeLists.txt says how to run one test by name. A test is one check
 counts. One that isn't run, as its program is missing or what it needs failed, is a failure. The last
 line is 'N passed, M failed'.
 """
+import pathlib
 import re
 import subprocess
 import sys
+import tempfile
 import xml.etree.ElementTree
 
 import packages
 from checks import ROOT, ended, processors
 
 FOLDER = ROOT / "out/tests"
-RESULTS = FOLDER / "results.xml"
 # The last line of tools/tests/counted.sh.
 COUNT = re.compile(r"^checks: (\d+) passed, (\d+) failed\s*\Z", re.M)
 # ctest keeps this much of what a test prints.
@@ -37,11 +38,10 @@ def any_of(words):
     return "|".join(map(re.escape, words))
 
 
-def run(groups, names):
-    """Runs the tests of these groups that a name names, and what they need; ctest's status."""
-    RESULTS.unlink(missing_ok=True)
+def run(groups, names, results):
+    """Runs the tests of these groups that a name names, and what they need; ctest's status. It writes the results, as JUnit's, into that file."""
     words = ["--output-on-failure", "--no-tests=error", "--test-output-size-passed", BYTES, "--test-output-size-failed", BYTES]
-    words += ["-j", str(processors()), "-L", f"^({any_of(groups)})$", "-R", any_of(names) or ".", "--output-junit", RESULTS]
+    words += ["-j", str(processors()), "-L", f"^({any_of(groups)})$", "-R", any_of(names) or ".", "--output-junit", results]
     return subprocess.run(["ctest", "--test-dir", FOLDER, *words]).returncode
 
 
@@ -62,8 +62,10 @@ def main(words):
         print(packages.fault(package))
     if lacking or not listed():
         return ended(0, 1)
-    status = run(groups, names)
-    cases = xml.etree.ElementTree.parse(RESULTS).findall(".//testcase") if RESULTS.is_file() else []
+    with tempfile.TemporaryDirectory() as room:
+        results = pathlib.Path(room, "results.xml")
+        status = run(groups, names, results)
+        cases = xml.etree.ElementTree.parse(results).findall(".//testcase") if results.is_file() else []
     passed, failed = (sum(it) for it in zip((0, 0), *map(counted, cases)))
     return ended(passed, failed or int(status != 0))
 

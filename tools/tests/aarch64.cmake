@@ -12,9 +12,9 @@ set(EMULATED qemu-aarch64-static)
 # What makes it so that the emulator needs no library of the processor.
 set(CROSS make -s CC=aarch64-linux-gnu-gcc)
 # It takes the library that tools/archive-beside.py has proved, or proves it.
-test("the archive for aarch64, built" SETS_UP aarch64 RUNS ${FUNCTIONS} build_archive)
+test("the archive for aarch64, built" SETS_UP aarch64 CALLS build_archive)
 list(APPEND NEEDED aarch64)
-test("it has the header's calls" RUNS ${FUNCTIONS} archive_names ${ARM} aarch64-linux-gnu-)
+test("it has the header's calls" CALLS archive_names ${ARM} aarch64-linux-gnu-)
 test("no call takes more stack there than the page says" RUNS tools/frames.py ${ARM}/libkupaldiz_proved.a 4096)
 # It counts what the library asks for. Where all is one program, it would count what the C library asks
 # for as well: so it takes that as a shared one.
@@ -29,9 +29,8 @@ test("programs compiled for other limits, for aarch64" WITH CC=aarch64-linux-gnu
 
 test("the manual pages' own names are built for aarch64, no warning" SETS_UP aarch64-netbsd LOCKS aarch64-make PROCESSORS 2
     RUNS ${CROSS} -j 2 LDFLAGS=-static -C netbsd plain)
-execute_process(COMMAND make -s -C netbsd list-plain WORKING_DIRECTORY ${TOP} OUTPUT_VARIABLE programs OUTPUT_STRIP_TRAILING_WHITESPACE)
-separate_arguments(programs)
-foreach(program ${programs})
+programs_of(plain)
+foreach(program ${PROGRAMS})
     # Where a program ends by a signal, the emulator says a line of its own: so not those that compare all that is said there.
     set(compares)
     if(EXISTS ${TOP}/netbsd/tests/${program}.c)
@@ -51,13 +50,13 @@ foreach(program misuse "history 200 1")
         WITH ORDERED_SITES=${OUT}/aarch64/ordered-${name}.sites RUNS ${EMULATED} ${ARM}/ordered-${words})
 endforeach()
 test("a plain load is seen" NEEDS aarch64-ordered WITH ORDERED_PLANT=1
-    RUNS ${FUNCTIONS} catches "comes to byte 0 of a table" ${EMULATED} ${ARM}/ordered-misuse)
-test("a weaker step is seen" NEEDS aarch64-sites RUNS ${FUNCTIONS} sees_weaker_step)
+    CALLS catches "comes to byte 0 of a table" ${EMULATED} ${ARM}/ordered-misuse)
+test("a weaker step is seen" NEEDS aarch64-sites CALLS sees_weaker_step)
 test("the archive's atomic instructions are these four, and most were met" NEEDS aarch64-sites
     RUNS tools/atomics.py ${ARM}/libkupaldiz_proved.a ${ARM}/ordered-misuse ${ARM}/ordered-history)
 
 # By hand, as it fetches 110 megabytes: Debian's compiler and its standard library for both processors,
 # which are unpacked below out/aarch64.
 set(GROUP aarch64-rust)
-test("Debian's Rust for both processors is fetched" SETS_UP aarch64-rust RUNS ${FUNCTIONS} fetch_rust)
+test("Debian's Rust for both processors is fetched" SETS_UP aarch64-rust CALLS fetch_rust)
 test("the Rust crate's tests, for aarch64" NEEDS aarch64-rust COUNTED ${FUNCTIONS} rust_tests)

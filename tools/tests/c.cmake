@@ -1,9 +1,9 @@
 # The clients in C over the archive: plain, in the checking build, as users build and install them;
 # watched by valgrind and by the compiler's sanitizers; and memory behind entries, under three checkers.
 group(build c)
-test("there is an archive" SETS_UP archive RUNS ${FUNCTIONS} has_archive)
+test("there is an archive" SETS_UP archive CALLS has_archive)
 list(APPEND NEEDED archive made)
-test("the archive has the header's calls" RUNS ${FUNCTIONS} archive_names out)
+test("the archive has the header's calls" CALLS archive_names out)
 test("no call takes more stack than the page says" RUNS tools/frames.py out/libkupaldiz_proved.a 4096)
 test("the clients in C are built, no warning" SETS_UP built LOCKS make PROCESSORS 2 RUNS make -s -j 2 all)
 test("C: all of them are built with sanitizers" SETS_UP sanitized LOCKS make PROCESSORS 2 RUNS make -s -j 2 sanitized)
@@ -15,7 +15,7 @@ programs(C: "" built out/ smallest walk packet "shared 2000" misuse allocs built
     "speed 2 8 1000" "changes 20" "changes 20 2 4" "changes 20 64 255" checked)
 programs(C: " in the checking build" built out/checked-
     smallest walk packet "shared 500" "forwarder 200" "device_switch 20" "together 20")
-test("C: each script of examples prints its report" NEEDS built RUNS ${FUNCTIONS} scripts_report)
+test("C: each script of examples prints its report" NEEDS built CALLS scripts_report)
 test("C: programs compiled for other limits" NEEDS archive
     COUNTED packaging/other-limits.sh crates/registry_c/include out/libkupaldiz_proved.a)
 test("C: installed, used by pkg-config alone, and uninstalled" NEEDS archive pages LOCKS make COUNTED tools/test-install.sh)
@@ -37,7 +37,7 @@ test("C: table_model with the thread sanitizer" RUNS out/raced-table_model 2000)
 test("C: together under valgrind" RUNS ${WATCHED} ${ALL_LEAKS} out/together-none-right 5)
 # Each checker catches what frees a turn too early.
 foreach(when early unperformed)
-    test("C: freed ${when}: the address sanitizer sees it" RUNS ${FUNCTIONS} catches heap-use-after-free out/together-address-${when} 200)
-    test("C: freed ${when}: the thread sanitizer sees it" RUNS ${FUNCTIONS} catches "data race" out/together-thread-${when} 100)
-    test("C: freed ${when}: valgrind sees it" RUNS ${FUNCTIONS} catches "Invalid read" ${WATCHED} ${ALL_LEAKS} out/together-none-${when} 10)
+    test("C: freed ${when}: the address sanitizer sees it" CALLS catches heap-use-after-free out/together-address-${when} 200)
+    test("C: freed ${when}: the thread sanitizer sees it" CALLS catches "data race" out/together-thread-${when} 100)
+    test("C: freed ${when}: valgrind sees it" CALLS catches "Invalid read" ${WATCHED} ${ALL_LEAKS} out/together-none-${when} 10)
 endforeach()
