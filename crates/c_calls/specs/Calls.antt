@@ -57,8 +57,9 @@ abbrev pub asked : ℕ → Option CName → Result Key ℕ
 asked kind None = Err NULL
 asked kind (Some m) = key_or_bad (kind_in kind) (words_name m)
 
--- What a call does, by what its arguments ask for. If something is wrong with them, its number is the
--- result, and nothing changes: `Same` says so of what the call writes. Else P holds of what they ask for.
+-- What a call does, by what its arguments ask for. If something is wrong with them, its number is
+-- the result, and nothing changes: `Same` says so of what the call writes. Else P holds of what they
+-- ask for.
 abbrev pub DoesAsked : {X : Type 0} → Result X ℕ → ℕ → Type 0 → (X → Type 0) → Type 0
 DoesAsked (Err e) n Same P = (n ≡ e) × Same
 DoesAsked (Ok x) n Same P = P x
