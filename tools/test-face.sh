@@ -130,7 +130,7 @@ test_page() {
 }
 
 test_c() {
-    programs C: "" "$out/" smallest walk packet 'shared 2000' misuse allocs built turns deferred together interrupted reclaims lent replaces table table_calls 'table_model 5000' history \
+    programs C: "" "$out/" smallest walk packet 'shared 2000' misuse allocs built turns deferred together interrupted reclaims lent replaces table table_calls table_choice 'table_model 5000' history \
         'history 30000 1 largest' names recalls forwarder device_switch 'speed 2 8 1000' 'changes 20' 'changes 20 2 4' 'changes 20 64 255' checked
     programs C: " in the checking build" "$out/checked-" smallest walk packet 'shared 500' 'forwarder 200' 'device_switch 20' 'together 20'
     check "C: each script of examples prints its report" scripts_report
@@ -142,7 +142,7 @@ test_c() {
 # The same programs, where each access of the client's, or of all, is watched.
 test_watched() {
     programs C: " under valgrind" "watched all $out/" smallest walk packet 'shared 20' misuse built interrupted reclaims lent 'replaces 500' 'history 1000 1 small' names 'script examples/travelling-count.txt'
-    programs C: " with sanitizers" "$out/sanitized-" smallest walk misuse packet 'shared 500' built reclaims lent 'replaces 5000' 'table 2000' table_calls 'table_model 2000' 'history 100000' names forwarder device_switch
+    programs C: " with sanitizers" "$out/sanitized-" smallest walk misuse packet 'shared 500' built reclaims lent 'replaces 5000' 'table 2000' table_calls table_choice 'table_model 2000' 'history 100000' names forwarder device_switch
 }
 
 # Objects of the heap behind entries, freed once nobody holds them, under three checkers; each of them catches what frees a turn too early.

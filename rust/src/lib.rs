@@ -183,6 +183,7 @@
 mod basket;
 mod carried;
 mod changes;
+mod choice;
 mod cpu;
 mod error;
 mod ffi;
