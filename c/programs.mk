@@ -19,7 +19,7 @@ PROGRAMS = smallest walk packet shared misuse allocs built $(OVER_WAITING) turns
 # Tests of kupaldiz_waiting.h: each is compiled with it.
 OVER_WAITING = deferred together interrupted reclaims lent replaces $(OVER_TABLE)
 # An example of kupaldiz_table.h and its tests.
-OVER_TABLE = table table_calls table_model
+OVER_TABLE = table table_calls table_choice table_model
 # They read registers of x86-64.
 PROGRAMS_x86_64 = recalls
 # A release's source has no bench.
@@ -43,7 +43,8 @@ $(addprefix $(OUT)/,history allocs): LINK = $(WRAP)
 $(OUT)/deferred: LINK = -Wl,--wrap=kupaldiz_destroy
 $(addprefix $(OUT)/,shared forwarder device_switch turns speed $(OVER_WAITING)): $(WAITING) c/include/kupaldiz_waiting.h
 $(foreach way,$(OUT)/ $(OUT)/sanitized- $(OUT)/raced-,$(addprefix $(way),$(OVER_TABLE))): $(TABLE)
-$(OUT)/table_calls $(OUT)/sanitized-table_calls: LINK = -Wl,--wrap=getrandom,--wrap=malloc,--wrap=calloc,--wrap=aligned_alloc,--wrap=pthread_key_create
+$(OUT)/table_choice $(OUT)/sanitized-table_choice: LINK = -Wl,--wrap=getrandom
+$(OUT)/table_calls $(OUT)/sanitized-table_calls: LINK = -Wl,--wrap=getrandom,--wrap=malloc,--wrap=calloc,--wrap=aligned_alloc,--wrap=pthread_key_create,--wrap=pthread_setspecific
 $(OUT)/forwarder $(OUT)/device_switch: c/examples/workers.h
 $(OUT)/recalls: STRICT = -std=c11 -D_GNU_SOURCE -mno-red-zone $(WARNINGS)
 $(OUT)/recalls: LINK = -Wl,--wrap=malloc

@@ -46,7 +46,7 @@ def lookup(contender, operation="lookup", threads=1):
 
 def aims(end):
     """How many aims of the published run end so."""
-    return str(len(re.findall(rf", at (?:most|least) .*  {end}$", figures.text_of(figures.RUN), re.M)))
+    return str(len(re.findall(rf", at (?:most|least) .*  {end}$", figures.run(), re.M)))
 
 
 def thousands(told, *patterns):

@@ -1,40 +1,30 @@
 #!/usr/bin/env -S python3 -B
-"""Makes the tables of bench/README.md from the published runs.
+"""Makes the tables of bench/README.md from the published run, except those of tables of many names.
 
     tools/figures.py make    writes each table that follows a line <!-- figures: .. -->
 
 To publish another run, save it in bench/runs, name it here, and make the tables. tools/check-docs.py
-looks whether the page has them, and links to these runs alone.
+looks whether the page has them, and links to this run.
 """
 import re
 import sys
 
 from checks import ROOT
 
-RUN, TABLES = "2026-12-01-fast", "2026-12-01-tables"
+RUN = "2026-12-01-fast"
 PAGE = ROOT / "bench/README.md"
 MARKED = re.compile(r"(<!-- figures: (.*) -->\n\n)((?:\|.*\n)*)")
 LINKED = re.compile(r"\]\(runs/([\w-]+)\.txt\)")
 
 
-def text_of(run):
-    return (ROOT / f"bench/runs/{run}.txt").read_text()
+def run():
+    return (ROOT / f"bench/runs/{RUN}.txt").read_text()
 
 
 def block(head):
     """The rows of the run's block whose first line begins so: each contender's numbers."""
-    rows = re.search(rf"^{re.escape(head)}.*\n((?:.+\n)*)", text_of(RUN), re.M)[1]
+    rows = re.search(rf"^{re.escape(head)}.*\n((?:.+\n)*)", run(), re.M)[1]
     return {words[0]: words[1:] for words in map(str.split, rows.splitlines())}
-
-
-def whole(number):
-    """The number without decimals, and with a comma between thousands."""
-    return f"{float(number):,.0f}"
-
-
-def nearly(number):
-    """The number, from 100 on without decimals."""
-    return whole(number) if float(number) >= 100 else number
 
 
 def operations(names):
@@ -47,7 +37,7 @@ def operations(names):
 
 def changed(kind):
     """Microseconds with 1, 4 and 8 CPUs and no reader, and with three readers."""
-    alone, beside = map(block, re.findall(rf"^{kind}.*$", text_of(RUN), re.M))
+    alone, beside = map(block, re.findall(rf"^{kind}.*$", run(), re.M))
     for who in (it for it in alone if it != "CPUs"):
         yield f"`{who}`", ", ".join(alone[who][place] for place in (0, 3, 7)), beside[who][2]
 
@@ -67,22 +57,11 @@ def percentiles():
     yield "", "clock", "read: 50; 99; 99.9", "replace: 50; 99; 99.9"
     for who, numbers in block("one lookup and one replacement").items():
         if who != "clock":
-            cells = [whole(it) for it in numbers]
+            cells = [f"{int(it):,}" for it in numbers]
             yield f"`{who}`", cells[0], "; ".join(cells[1:4]), "; ".join(cells[4:])
 
 
-def many_names():
-    """One thread's figures of a table, and of liburcu's hash table, by the number of names."""
-    rows = re.findall(r"^(look_up|urcu-lfht) +1 threads +(\d+) +(.*)$", text_of(TABLES), re.M)
-    found = {(who, names): rest.split() for who, names, rest in rows}
-    yield "Names", "first: ours, `urcu-lfht`", "later", "absent", "bytes"
-    for names in [names for who, names in found if who == "look_up"]:
-        first, later, absent, _, taken = zip(found["look_up", names], found["urcu-lfht", names])
-        cells = [map(nearly, it) for it in (first, later, absent)] + [map(whole, taken)]
-        yield whole(names), *("; ".join(it) for it in cells)
-
-
-MADE = {"changes": changes, "waits": waits, "percentiles": percentiles, "tables": many_names}
+MADE = {"changes": changes, "waits": waits, "percentiles": percentiles}
 
 
 def row_of(cells):
@@ -103,9 +82,9 @@ def fault():
     """What is wrong with the page, or ''. A tree may lack it."""
     if not PAGE.is_file():
         return ""
-    others = sorted(set(LINKED.findall(PAGE.read_text())) - {RUN, TABLES})
+    others = sorted(it for it in set(LINKED.findall(PAGE.read_text())) - {RUN} if not it.endswith("-tables"))
     if others:
-        return f"it links to the runs {', '.join(others)}, and tools/figures.py names {RUN} and {TABLES}"
+        return f"it links to the runs {', '.join(others)}, and tools/figures.py names {RUN}"
     return "" if PAGE.read_text() == made() else "tools/figures.py make writes other figures"
 
 

@@ -1,8 +1,9 @@
 /*
  * big CONTENDER THREADS ENTRIES PASSES - what a table of so many names takes, in nanoseconds for each operation of one thread, and its bytes for an entry:
- * the first lookup of each name by a thread, later ones, lookups of names that no entry has, and a replacement while the other threads look up
+ * the first lookup of each name by a thread, later ones, lookups of names that no entry has, a replacement while the other threads look up, and replacements
+ * of different names by one thread and by two at once while no thread looks up
  *
- * Names are looked up in an order that is shuffled once, the same for all contenders. `bare` loads the items' lines in this order: what the caches miss.
+ * Names are looked up in an order that is shuffled once, the same for all contenders. What a contender can't do is 0.
  */
 #include "big.h"
 
@@ -14,9 +15,15 @@
 #include <string.h>
 #include <time.h>
 
-#include "../../c/src/table/inner.h"
+#include "../../c/src/table/choice.h"
 
-static const struct contender *const ALL[] = {&bare, &ours_look_up, &ours_get, &ours_small, &urcu_lfht, &ck_table, &locked,
+static const struct contender *const ALL[] = {&bare_hit, &bare_list, &ours_look_up, &ours_roomy, &ours_get, &ours_small, &locked,
+#ifdef WITH_URCU
+    &urcu_lfht,
+#endif
+#ifdef WITH_CK
+    &ck_table,
+#endif
 #ifdef WITH_DPDK
     &dpdk_hash,
 #endif
@@ -102,12 +109,16 @@ static uint64_t pass(unsigned thread, const struct name *row, bool are_there)
     return right;
 }
 
+/* Nanoseconds after which nothing more is begun of one kind. */
+static const double ENOUGH = 3e8;
+
 /* The nanoseconds for each of them, of so many passes: the least of several times, each of 10,000 lookups or one pass. */
 static double timed(unsigned thread, const struct name *row, bool are_there, uint64_t times)
 {
     const uint64_t most = times * entries < 10000 ? times : (10000 + entries - 1) / entries;
+    const double started = now();
     double least = 1e18;
-    for (uint64_t made = 0; made < times; made += most) {
+    for (uint64_t made = 0; made < times && now() < started + ENOUGH; made += most) {
         const double begin = now();
         for (uint64_t i = 0; i < most; i++)
             if (pass(thread, row, are_there) != entries)
@@ -118,75 +129,133 @@ static double timed(unsigned thread, const struct name *row, bool are_there, uin
     return least;
 }
 
+enum { FIRST, LATER, ABSENT, REPLACE, ALONE, PAIR, TIMES };
+
+/* The nanoseconds of one thread. */
 struct timings {
-    double first, later, absent, replace;
+    double of[TIMES];
 };
 
-/* Replaces entries, in the order of lookups, while the other threads look up. */
-static double timed_replaces(unsigned thread)
+/*
+ * Replaces entries, in the order of lookups: of `changers` threads each has names of its own. The nanoseconds for each.
+ * The items are made before, and freed after it.
+ */
+static double timed_replaces(unsigned thread, unsigned changers)
 {
-    const uint64_t count = entries < 2000 ? entries : 2000;
-    if (chosen_one->replace == NULL)
-        return 0;
-    const double begin = now();
+    const uint64_t count = (entries < 2000 ? entries : 2000) / changers;
+    struct item **items = malloc(count * sizeof *items);
+    uint64_t made = 0;
+    if (items == NULL)
+        fail("no memory");
     for (uint64_t i = 0; i < count; i++)
-        free(chosen_one->replace(thread, make_item(ids[i])));
-    return (now() - begin) / (double)count;
+        items[i] = make_item(ids[i * changers + thread]);
+    const double begin = now();
+    for (; made < count && now() < begin + ENOUGH; made++)
+        items[made] = chosen_one->replace(thread, items[made]);
+    const double took = (now() - begin) / (double)made;
+    for (uint64_t i = 0; i < count; i++)
+        free(items[i]);
+    free(items);
+    return took;
+}
+
+/* The first threads replace at once, the others wait. */
+static double timed_changers(unsigned thread, unsigned changers)
+{
+    pthread_barrier_wait(&all_here);
+    const bool can = chosen_one->replace != NULL && threads >= changers && (changers == 1 || !chosen_one->has_one_changer);
+    return can && thread < changers ? timed_replaces(thread, changers) : 0;
+}
+
+/* The first thread replaces while the others look up. */
+static double timed_beside_readers(unsigned thread)
+{
+    double took = 0;
+    pthread_barrier_wait(&all_here);
+    if (thread == 0 && chosen_one->replace != NULL)
+        took = timed_replaces(thread, 1);
+    if (thread == 0)
+        atomic_store(&over, true);
+    while (!atomic_load(&over))
+        if (pass(thread, names, true) != entries)
+            fail("a replaced entry was missed");
+    return took;
+}
+
+static double timed_lookups(unsigned thread, const struct name *row, bool are_there, uint64_t times)
+{
+    pthread_barrier_wait(&all_here);
+    return timed(thread, row, are_there, times);
 }
 
 static void *work(void *of)
 {
-    struct timings *timings = of;
+    struct timings *all = of;
     static atomic_uint next;
     const unsigned thread = atomic_fetch_add(&next, 1);
+    double *own = all[thread].of;
     chosen_one->begin(thread);
     for (uint64_t i = 0; thread == 0 && i < entries; i++)
         chosen_one->add(thread, make_item(i));
-    pthread_barrier_wait(&all_here);
-    timings[thread].first = timed(thread, names, true, 1);
-    pthread_barrier_wait(&all_here);
-    timings[thread].later = timed(thread, names, true, passes);
-    pthread_barrier_wait(&all_here);
-    if (chosen_one != &bare)
-        timings[thread].absent = timed(thread, absent, false, passes);
-    pthread_barrier_wait(&all_here);
-    if (thread == 0)
-        timings[thread].replace = timed_replaces(thread);
-    atomic_store(&over, atomic_load(&over) || thread == 0);
-    while (!atomic_load(&over))
-        if (pass(thread, names, true) != entries)
-            fail("a replaced entry was missed");
+    own[FIRST] = timed_lookups(thread, names, true, 1);
+    own[LATER] = timed_lookups(thread, names, true, passes);
+    if (chosen_one != &bare_hit)
+        own[ABSENT] = timed_lookups(thread, absent, false, passes);
+    own[REPLACE] = timed_beside_readers(thread);
+    own[ALONE] = timed_changers(thread, 1);
+    own[PAIR] = timed_changers(thread, 2);
     chosen_one->end(thread);
     return NULL;
 }
 
+static const struct contender *contender_of(const char *name)
+{
+    for (size_t i = 0; i < sizeof ALL / sizeof ALL[0]; i++)
+        if (strcmp(ALL[i]->name, name) == 0)
+            return ALL[i];
+    return NULL;
+}
+
+static double bytes_in_use(void)
+{
+    const struct mallinfo2 info = mallinfo2();
+    return (double)(info.uordblks + info.hblkhd);
+}
+
+/* The longest of all threads. */
+static double longest(const struct timings *all, unsigned which)
+{
+    double most = 0;
+    for (unsigned i = 0; i < threads; i++)
+        most = all[i].of[which] > most ? all[i].of[which] : most;
+    return most;
+}
+
+static void run(struct timings *all)
+{
+    pthread_t started[MOST_THREADS];
+    for (unsigned i = 0; i < threads; i++)
+        if (pthread_create(&started[i], NULL, work, all) != 0)
+            fail("no thread");
+    for (unsigned i = 0; i < threads; i++)
+        pthread_join(started[i], NULL);
+}
+
 int main(int count, char **words)
 {
-    static struct timings timings[MOST_THREADS];
-    pthread_t started[MOST_THREADS];
-    for (size_t i = 0; count == 5 && i < sizeof ALL / sizeof ALL[0]; i++)
-        chosen_one = strcmp(ALL[i]->name, words[1]) == 0 ? ALL[i] : chosen_one;
+    static struct timings all[MOST_THREADS];
+    chosen_one = count == 5 ? contender_of(words[1]) : NULL;
     if (chosen_one == NULL || (threads = (unsigned)atoi(words[2])) < 1 || threads > MOST_THREADS ||
         (entries = strtoull(words[3], NULL, 10)) < 1 || (passes = strtoull(words[4], NULL, 10)) < 1)
         fail("CONTENDER THREADS ENTRIES PASSES");
     make_names();
     pthread_barrier_init(&all_here, NULL, threads);
-    const struct mallinfo2 before = mallinfo2();
+    const double before = bytes_in_use();
     chosen_one->open(threads, entries);
-    for (unsigned i = 0; i < threads; i++)
-        if (pthread_create(&started[i], NULL, work, timings) != 0)
-            fail("no thread");
-    for (unsigned i = 0; i < threads; i++)
-        pthread_join(started[i], NULL);
-    const struct mallinfo2 after = mallinfo2();
-    struct timings most = {0};
-    for (unsigned i = 0; i < threads; i++) {
-        most.first = timings[i].first > most.first ? timings[i].first : most.first;
-        most.later = timings[i].later > most.later ? timings[i].later : most.later;
-        most.absent = timings[i].absent > most.absent ? timings[i].absent : most.absent;
-    }
-    const double bytes = (double)(after.uordblks + after.hblkhd) - (double)(before.uordblks + before.hblkhd);
-    printf("%-12s %u threads, %7lu entries: first %7.1f, later %6.1f, absent %6.1f, replace %8.0f, %6.0f bytes\n", chosen_one->name, threads,
-        (unsigned long)entries, most.first, most.later, most.absent, timings[0].replace, bytes / (double)entries - sizeof(struct item));
+    run(all);
+    printf("%s %u %lu", chosen_one->name, threads, (unsigned long)entries);
+    for (unsigned which = 0; which < TIMES; which++)
+        printf(" %.1f", longest(all, which));
+    printf(" %.0f\n", (bytes_in_use() - before) / (double)entries - sizeof(struct item));
     return 0;
 }

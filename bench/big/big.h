@@ -12,6 +12,11 @@ struct name {
     uint64_t words[2];
 };
 
+static inline bool same(const struct name *one, const struct name *other)
+{
+    return one->words[0] == other->words[0] && one->words[1] == other->words[1];
+}
+
 /* What an entry leads to: a line of the cache of its own. */
 struct item {
     _Alignas(64) struct name name;
@@ -30,9 +35,10 @@ struct contender {
     uint64_t (*find)(unsigned thread, const struct name *name);
     /* Puts an item in the place of that of its name, waits until nobody uses the old one, and returns that. NULL: it can't. */
     struct item *(*replace)(unsigned thread, struct item *item);
+    bool has_one_changer; /* at a time */
 };
 
-extern const struct contender bare, ours_look_up, ours_get, ours_small, urcu_lfht, ck_table, locked, dpdk_hash;
+extern const struct contender bare_hit, bare_list, ours_look_up, ours_get, ours_roomy, ours_small, urcu_lfht, ck_table, locked, dpdk_hash;
 
 /* The names in the order in which they are looked up, and their ids. */
 extern struct name *names;

@@ -66,4 +66,4 @@ static struct item *replace(unsigned thread, struct item *item)
     return old;
 }
 
-const struct contender dpdk_hash = {"rte_hash", open_table, begin, end, add, find, replace};
+const struct contender dpdk_hash = {"rte_hash", open_table, begin, end, add, find, replace, true};

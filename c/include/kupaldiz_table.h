@@ -4,7 +4,9 @@
  *
  * A registry has at most KUPALDIZ_MOST_SLOTS entries. A table opens as many registries as its
  * entries need, and chooses one by the name: by a hash of the name and of a secret that is drawn as
- * it is opened. Its locks are inside, one a registry. A thread has one handle for all calls.
+ * it is opened. Its locks are inside, one a registry: changes in two registries don't wait for each
+ * other. A thread has one handle for all calls. A handle remembers which registry names chose, so
+ * that it seldom hashes a name twice: in 40 to 80 bytes for each entry of the settings.
  *
  * Nothing here is proved. It is plain C over proved calls: each call with a name or a number is one
  * call of the registry that the name chose, except that waits repeat it. So what kupaldiz.h says of
@@ -38,7 +40,7 @@ struct kupaldiz_table_thread {
 	uint64_t number;	/* from 0: of a CPU, as `cpu` of a reference and `what` of a turn */
 };
 
-/* Entries of a table, at most. */
+/* Entries of a table, at most: in a build with fewer than 64 slots 2^23 for each slot. */
 #define KUPALDIZ_TABLE_MOST_ENTRIES	(UINT64_C(1) << 29)
 
 /* The size of a table, and what is called for an entry that was deferred. */
@@ -174,12 +176,12 @@ enum kupaldiz_result kupaldiz_table_release_local(const struct kupaldiz_table_th
  * registries if the table is full.
  *
  * KUPALDIZ_CROWDED says that the registry has no vacant slot, although the table isn't full.
- * Registries have together twice as many slots as the table has entries. So of n names that were
- * chosen without knowing the secret, in R registries, the probability that any registry has too
- * few slots is below R * (e / 4)^(n / R), which is below 10^-13 for each n that a table can have.
- * Retired entries of one name are in one registry, and count. In a build with fewer slots the
- * formula's result is larger. A table of up to KUPALDIZ_MOST_SLOTS entries has one registry, and
- * is never crowded.
+ * Registries have together twice as many slots as the table has entries. So of names that were
+ * chosen without knowing the secret, in R registries with m names in each on average, the
+ * probability that any registry has too few slots is below R * (e / 4)^m / sqrt(4 * pi * m), which
+ * is below 10^-12 for each size that a table can have. Retired entries of one name are in one
+ * registry, and count. In a build with fewer slots the formula's result is larger. A table of up to
+ * KUPALDIZ_MOST_SLOTS entries has one registry, and is never crowded.
  * Returns KUPALDIZ_EMPTY_HANDLE, KUPALDIZ_NULL if `name` is NULL, KUPALDIZ_BAD_NAME,
  * KUPALDIZ_INSIDE within a visit of this registry's entries, KUPALDIZ_NAME_TAKEN, KUPALDIZ_NO_SLOT
  * if the table is full, KUPALDIZ_CROWDED, KUPALDIZ_HISTORY_FULL.

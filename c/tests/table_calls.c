@@ -15,16 +15,17 @@
 #include "client.h"
 #include "wrapped_heap.h"
 
-/* So many entries have nine registries of these slots, whose index takes four bits of a number. */
-enum { THREADS = 3, ENTRIES = 1100, REGISTRIES = 9, SLOTS = 245, INDEXES = 16 };
+/* So many entries have so many registries of these slots. */
+enum { THREADS = 3, ENTRIES = 1100, REGISTRIES = 15, SLOTS = 147 };
 
 static const struct timespec PAST = {0, 0};
 static struct kupaldiz_table table;
 static struct kupaldiz_table_thread own;
 
-/* ---- What fails: the allocation of this number, from 1. ---- */
+/* ---- What fails: the allocation of this number, from 1; and a thread's own word, if it is so. ---- */
 
 static unsigned asked, failing;
+static bool refused_key;
 
 static bool fails(void)
 {
@@ -36,13 +37,15 @@ FAILING(void *, calloc, (size_t count, size_t size), (count, size), fails(), NUL
 FAILING(void *, aligned_alloc, (size_t alignment, size_t size), (alignment, size), fails(), NULL)
 FAILING(int, pthread_key_create, (pthread_key_t *made, void (*end)(void *)), (made, end), fails(),
     EAGAIN)
+FAILING(int, pthread_setspecific, (pthread_key_t key, const void *word), (key, word), refused_key,
+    ENOMEM)
 
 /* The secret is 0. Before that the system is interrupted once. */
 WRAPPED(getrandom);
 ssize_t __wrap_getrandom(void *bytes, size_t length, unsigned flags)
 {
 	static bool interrupted;
-	EXPECT(flags == 0 && length == 16);
+	EXPECT(flags == 0 && length == sizeof(struct secret));
 	interrupted = !interrupted;
 	errno = interrupted ? EINTR : ENOSYS;
 	if (interrupted || fails())
@@ -67,6 +70,11 @@ static void open_table(uint64_t entries)
 	freed_values = 0;
 	DONE(kupaldiz_table_open(&settings, &table));
 	DONE(kupaldiz_table_take(&table, NULL, &own));
+}
+
+static const struct choice *own_choice(void)
+{
+	return &((const struct member *)own.at)->choice;
 }
 
 static void close_table(void)
@@ -104,58 +112,6 @@ static void removed(const struct kupaldiz_name *name)
 	struct kupaldiz_entry gone;
 	DONE(kupaldiz_table_detach(&own, name, &gone));
 	DONE(kupaldiz_table_destroy(&own, gone.number, &PAST, NULL));
-}
-
-/* ---- The choice. ---- */
-
-/* SipHash-1-3 of 16 bytes, as the hashers of Rust's standard library have it for the first key. */
-static void test_hash(void)
-{
-	const struct kupaldiz_name name = {0x0706050403020100, 0x0f0e0d0c0b0a0908};
-	const uint64_t zeros[2] = {0}, key[2] = {name.high, name.low};
-	EXPECT(hash_of(zeros, &name) == 0x8972188433a5c5b7);
-	EXPECT(hash_of(key, &name) == 0xcc4fdd1a7d908b66);
-}
-
-static double power(double base, uint64_t exponent)
-{
-	double result = 1;
-	for (; exponent != 0; exponent >>= 1, base *= base)
-		if (exponent & 1)
-			result *= base;
-	return result;
-}
-
-/* The probability that more than `slots` of so many names choose one of R registries. */
-static double tail(uint64_t names, double registries, uint64_t slots)
-{
-	const double odds = 1 / (registries - 1);
-	double term = power(1 - 1 / registries, names), sum = 0;
-	for (uint64_t k = 0; k < names && k < slots + 2000; k++) {
-		term *= (double)(names - k) / (double)(k + 1) * odds;
-		sum += k + 1 > slots ? term : 0;
-	}
-	return sum;
-}
-
-/* There are two slots for each entry, and the header's formula is above what is exact. */
-static void test_probability(void)
-{
-	const uint64_t sizes[] = {256, 300, 382, 383, 1000, 10000, 100000, 1000000,
-	    KUPALDIZ_TABLE_MOST_ENTRIES};
-	for (size_t i = 0; i < COUNT_OF(sizes); i++) {
-		const struct choice choice = choice_for(sizes[i]);
-		const double registries = (double)choice.registries;
-		const double formula = registries *
-		    power(2.718281828459045 / 4, sizes[i] / choice.registries);
-		EXPECT(choice.slots <= KUPALDIZ_MOST_SLOTS);
-		EXPECT(choice.registries * choice.slots >= 2 * sizes[i]);
-		EXPECT(choice.registries <= UINT64_C(1) << choice.bits && choice.bits < 24);
-		EXPECT(registries * tail(sizes[i], registries, choice.slots) < formula);
-		EXPECT(KUPALDIZ_MOST_SLOTS < 255 || formula < 1e-13);
-	}
-	for (uint64_t entries = 1; entries <= KUPALDIZ_MOST_SLOTS; entries++)
-		EXPECT(choice_for(entries).registries == 1 && choice_for(entries).slots == entries);
 }
 
 /* ---- Results. ---- */
@@ -197,7 +153,7 @@ static void test_settings(void)
 	    {KUPALDIZ_MOST_CPUS + 1, 1, NULL, NULL},
 	    {1, KUPALDIZ_TABLE_MOST_ENTRIES + 1, NULL, NULL}};
 	struct kupaldiz_table full = {&full};
-	EXPECT(choice.registries == REGISTRIES && choice.slots == SLOTS && choice.bits == 4);
+	EXPECT(choice.registries == REGISTRIES && choice.slots == SLOTS);
 	IS(FULL_HANDLE, kupaldiz_table_open(NULL, &full));
 	IS(NULL, kupaldiz_table_open(NULL, &table));
 	for (size_t i = 0; i < COUNT_OF(bad); i++)
@@ -238,9 +194,9 @@ static void test_arguments(void)
 }
 
 /* Numbers that are no entry's, also of a registry that there isn't. */
-static void test_numbers_of_none(uint64_t entries)
+static void test_numbers_of_none(void)
 {
-	const uint64_t numbers[] = {0, 1, UINT64_MAX};
+	const uint64_t numbers[] = {0, 1, KUPALDIZ_MOST_CHANGES + 1, UINT64_MAX};
 	const struct kupaldiz_entry foreign = {.number = UINT64_MAX};
 	struct kupaldiz_passive passive = {foreign, own.number};
 	struct kupaldiz_local local = {.entry = foreign};
@@ -250,11 +206,9 @@ static void test_numbers_of_none(uint64_t entries)
 		IS(NOT_FOUND, kupaldiz_table_audit(&table, numbers[i], &balance));
 	}
 	IS(NOT_HELD, kupaldiz_table_release(&own, &passive));
-	EXPECT(same_entry(&passive.entry, &foreign));
-	if (entries < ENTRIES)
-		return;
 	IS(NOT_RETIRED, kupaldiz_table_defer(&own, &foreign));
 	IS(NOT_HELD, kupaldiz_table_release_local(&own, &local));
+	EXPECT(same_entry(&passive.entry, &foreign) && same_entry(&local.entry, &foreign));
 }
 
 /* ---- The life of one entry. ---- */
@@ -494,12 +448,11 @@ static void test_fork(void)
 /* ---- Full tables. ---- */
 
 /* The next id from `id` on whose name chooses the registry. */
-static uint64_t next_in(size_t index, uint64_t id)
+static uint64_t next_in(uint64_t index, uint64_t id)
 {
-	const struct choice *choice = &((const struct member *)own.at)->choice;
 	for (;; id++) {
 		const struct kupaldiz_name name = id_name(id);
-		if (chosen(choice, &name) == index)
+		if (chosen(own_choice(), &name) == index)
 			return id;
 	}
 }
@@ -513,14 +466,14 @@ static void test_crowded(void)
 		ids[i] = id = next_in(3, id);
 		const struct kupaldiz_name name = id_name(id);
 		if (i < SLOTS)
-			EXPECT(attached(&name, i).number % INDEXES == 3);
+			EXPECT(index_of(attached(&name, i).number) == 3);
 	}
 	const struct kupaldiz_name first = id_name(ids[0]), last = id_name(ids[SLOTS]);
 	const struct kupaldiz_name other = id_name(next_in(4, id));
 	IS(CROWDED, kupaldiz_table_attach(&own, &last, 1, NULL));
 	IS(CROWDED, kupaldiz_table_replace(&own, &first, 1, &gone, NULL));
 	IS(NAME_TAKEN, kupaldiz_table_attach(&own, &first, 1, NULL));
-	EXPECT(attached(&other, 1).number % INDEXES == 4 && count() == SLOTS + 1);
+	EXPECT(index_of(attached(&other, 1).number) == 4 && count() == SLOTS + 1);
 	removed(&other);
 
 	/* What is deferred makes room. */
@@ -608,6 +561,49 @@ static void test_closing(void)
 	EXPECT(freed_values == 1);
 }
 
+/* A call that grows fails, and nothing has changed. The next allocation is refused. */
+#define REFUSED(call)						\
+	do {							\
+		asked = 0;					\
+		failing = 1;					\
+		IS(NO_MEMORY, call);				\
+		EXPECT(asked == 1);				\
+		failing = 0;					\
+	} while (0)
+
+static void *take_refused(void *of)
+{
+	struct kupaldiz_table_thread *thread = of;
+	refused_key = true;
+	IS(NO_MEMORY, kupaldiz_table_take(&table, NULL, thread));
+	refused_key = false;
+	EXPECT(thread->at == NULL);
+	DONE(kupaldiz_table_take(&table, NULL, thread));
+	DONE(kupaldiz_table_give(thread));
+	return NULL;
+}
+
+static void test_growing(void)
+{
+	const struct kupaldiz_name name = name_of("a");
+	struct kupaldiz_table_thread other = {0};
+	struct kupaldiz_local local = {0}, copy = {0};
+	struct kupaldiz_entry gone;
+	open_table(ENTRIES);
+	joined(started(take_refused, &other));
+	attached(&name, 1);
+	REFUSED(kupaldiz_table_get_local(&own, &name, &local));
+	EXPECT(local.entry.number == 0);
+	DONE(kupaldiz_table_get_local(&own, &name, &local));
+	REFUSED(kupaldiz_table_copy_local(&local, &copy));
+	EXPECT(local.entry.number != 0 && copy.entry.number == 0);
+	DONE(kupaldiz_table_detach(&own, &name, &gone));
+	IS(STILL_HELD, kupaldiz_table_destroy(&own, gone.number, &PAST, NULL));
+	DONE(kupaldiz_table_release_local(&own, &local));
+	DONE(kupaldiz_table_destroy(&own, gone.number, &PAST, NULL));
+	close_table();
+}
+
 /* Each of them fails in turn, and nothing is left; then none does. */
 static void test_allocations(void)
 {
@@ -626,14 +622,12 @@ static void test_allocations(void)
 
 int main(void)
 {
-	test_hash();
-	test_probability();
 	test_empty();
 	test_settings();
 	for (uint64_t entries = 10; entries <= ENTRIES; entries += ENTRIES - 10) {
 		open_table(entries);
 		test_arguments();
-		test_numbers_of_none(entries);
+		test_numbers_of_none();
 		test_life();
 		for (unsigned id = 0; id < 10; id++)
 			test_locals(id);
@@ -648,6 +642,7 @@ int main(void)
 		close_table();
 	}
 	test_closing();
+	test_growing();
 	test_allocations();
 	printf("table_calls: tables of 10 and %d entries\n", ENTRIES);
 	return 0;

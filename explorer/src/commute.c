@@ -3,15 +3,6 @@
  *
  * This is dynamic partial-order reduction with source sets and sleep sets. REDUCTION.md has its rules, the theorem that they leave nothing out, and which
  * functions keep its premises: a change here, or of what a call touches, changes that proof.
- *
- * A step comes after another one if they conflict, and after what that one comes after. A guard's reads are among the accesses of its step. So a step that
- * enables or disables another one conflicts with it. Two conflicting steps of different threads are a race if the later one's thread might have gone on before
- * the earlier step. For each race the search adds a backtrack point: at the earlier step a thread is planned that leads to the later step first, or all are.
- *
- * A plain access is no access of a step, unless it is a point of its own. Let two steps that commute here have plain accesses to one memory, and one of
- * them write. Where the two are neighbours nothing orders them, and so the run is wrong by a data race (plain.c), whichever comes first. As long as no run is
- * wrong, such neighbours leave the same memory in both orders. For this, two steps must conflict here if the one acquires the clock that the other
- * has released.
  */
 #include "inside.h"
 

@@ -300,36 +300,21 @@ extern struct scratch *scratch;
 	struct in_call in_call __attribute__((cleanup(end_of_call))); \
 	begin_of_call(&in_call)
 
-/* WRAPPED - a call that begins with its point and what it touches, and then is the layer's own. Both return nothing where the type is void. */
-#define WRAPPED(type, name, parameters, arguments, ...) \
+#define IN_PLACE_OF(type, name, parameters, ...) \
 	LAYER(type, name, parameters); \
 	type name parameters \
 	{ \
 		IN_CALL; \
 		__VA_ARGS__; \
-		return layer_##name arguments; \
 	}
 
+/* WRAPPED - a call that begins with its point and what it touches, and then is the layer's own. Both return nothing where the type is void. */
+#define WRAPPED(type, name, parameters, arguments, ...) IN_PLACE_OF(type, name, parameters, __VA_ARGS__; return layer_##name arguments)
+
 /* AROUND, ANSWERED - the same, with what comes behind the layer's own: of a call that returns nothing, and of one whose `answer` that may look at. */
-#define AROUND(type, name, parameters, arguments, before, after) \
-	LAYER(type, name, parameters); \
-	type name parameters \
-	{ \
-		IN_CALL; \
-		before; \
-		layer_##name arguments; \
-		after; \
-	}
+#define AROUND(type, name, parameters, arguments, before, after) IN_PLACE_OF(type, name, parameters, before; layer_##name arguments; after)
 #define ANSWERED(type, name, parameters, arguments, before, after) \
-	LAYER(type, name, parameters); \
-	type name parameters \
-	{ \
-		IN_CALL; \
-		before; \
-		type answer = layer_##name arguments; \
-		after; \
-		return answer; \
-	}
+	IN_PLACE_OF(type, name, parameters, before; type answer = layer_##name arguments; after; return answer)
 
 /* A call with a thing whose size is known, and one that touches it. */
 #define LIVE(thing)		at_made(__func__, thing, sizeof(*(thing)))

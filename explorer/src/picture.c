@@ -50,7 +50,7 @@ __attribute__((format(printf, 5, 6))) static void text_at(FILE *to, double x, do
 {
 	char text[256];
 	FORMAT(text, format);
-	fprintf(to, "<text x=\"%.1f\" y=\"%.1f\" class=\"%s\">", x, y, kind);
+	fprintf(to, "<text x=\"%.0f\" y=\"%.0f\" class=\"%s\">", x, y, kind);
 	escape(to, text);
 	fputs("</text>", to);
 }
@@ -91,7 +91,7 @@ static void draw_bar(FILE *to, unsigned from, unsigned until, const char *kind, 
 	double top = TOP + row_of(search->steps[from].chosen) * ROW, left = x_of(from);
 	double right = until >= search->length ? WIDE - RIGHT : x_of(until);
 	double high = lane == 0 ? 16 : 4, y = lane == 0 ? top - 8 : top + 6 + 7 * lane;
-	fprintf(to, "<rect class=\"%s\" x=\"%.1f\" y=\"%.1f\" width=\"%.1f\" height=\"%.1f\" rx=\"2\"/>\n", kind, left, y, right - left, high);
+	fprintf(to, "<rect class=\"%s\" x=\"%.0f\" y=\"%.0f\" width=\"%.0f\" height=\"%.0f\" rx=\"2\"/>\n", kind, left, y, right - left, high);
 }
 
 static void draw_pairs(FILE *to, unsigned at)
@@ -124,7 +124,7 @@ static void draw_rows(FILE *to)
 			text_at(to, 14, y + 4, "row", "%s", search->names[thread]);
 			if (search->steps[at].cpu != NOBODY)
 				text_at(to, 14, y + 18, "faint", "CPU %u", search->steps[at].cpu);
-			fprintf(to, "<line class=\"base\" x1=\"%d\" y1=\"%.1f\" x2=\"%d\" y2=\"%.1f\"/>\n", LEFT, y, WIDE - RIGHT, y);
+			fprintf(to, "<line class=\"base\" x1=\"%d\" y1=\"%.0f\" x2=\"%d\" y2=\"%.0f\"/>\n", LEFT, y, WIDE - RIGHT, y);
 		}
 		seen |= UINT32_C(1) << thread;
 	}
@@ -134,7 +134,7 @@ static void draw_steps(FILE *to)
 {
 	for (unsigned at = 0; at < search->length; at++) {
 		double x = x_of(at), y = TOP + row_of(search->steps[at].chosen) * ROW;
-		fprintf(to, "<circle class=\"step\" cx=\"%.1f\" cy=\"%.1f\" r=\"3\"/>", x, y);
+		fprintf(to, "<circle class=\"step\" cx=\"%.0f\" cy=\"%.0f\" r=\"3\"/>", x, y);
 		if (search->length <= 45 || (at + 1) % 5 == 0)
 			text_at(to, x - 4, y - 12, "faint", "%u", at + 1);
 		fputc('\n', to);
@@ -182,7 +182,7 @@ static void draw_legend(FILE *to)
 	static const char *const kinds[] = {"section", "lock", "reference", "count", "wait"};
 	double x = 430;
 	for (unsigned at = 0; at < sizeof(kinds) / sizeof(kinds[0]); at++, x += 92) {
-		fprintf(to, "<rect class=\"%s\" x=\"%.1f\" y=\"14\" width=\"16\" height=\"9\" rx=\"1\"/>", kinds[at], x);
+		fprintf(to, "<rect class=\"%s\" x=\"%.0f\" y=\"14\" width=\"16\" height=\"9\" rx=\"1\"/>", kinds[at], x);
 		text_at(to, x + 21, 23, "", "%s", kinds[at]);
 		fputc('\n', to);
 	}
@@ -209,7 +209,7 @@ bool draw(const char *name, const struct explorer_found *found)
 	draw_steps(to);
 	if (search->length > 0) {
 		double x = x_of(search->length - 1), middle = TOP + row_of(search->steps[search->length - 1].chosen) * ROW;
-		fprintf(to, "<path class=\"fault\" d=\"M%.1f %.1fl12 12m0 -12l-12 12\"/>\n", x - 6, middle - 6);
+		fprintf(to, "<path class=\"fault\" d=\"M%.0f %.0fl12 12m0 -12l-12 12\"/>\n", x - 6, middle - 6);
 	}
 	write_lines(to, list_steps(to, list) + 6, found->line);
 	fputs("</svg>\n", to);

@@ -31,6 +31,8 @@ HANDLER(change_word, atomic_inc_uint(&word))
 HANDLER(tell_change, if (atomic_load_relaxed(&word) != 0) explorer_outcome("changed"))
 static void make_teller(void) { explorer_thread("one", change_word, NULL); explorer_thread("two", tell_change, NULL); }
 
+static void fail_at_once(void) { make_quiet_steppers(); panic("setup"); }
+
 /* Of 6 letters, two of each kind, there are 90 orders; of 12, six of each, 924. */
 static void test_orders(void)
 {
@@ -48,6 +50,8 @@ static void test_orders(void)
 	EXPECT(found.outcomes == EXPLORER_OUTCOMES && found.others == found.schedules - EXPLORER_OUTCOMES);
 	options.name = "change";
 	EXPECT(explorer_run(make_teller, &options) == 0 && found.outcomes == 2);
+	const struct explorer_options fails = {.goes_on = true, .quiet = true, .found = &found};
+	EXPECT(explorer_run(fail_at_once, &fails) == 0 && found.outcomes == 1 && strncmp(found.outcome[0].text, "panic: setup", 12) == 0);
 }
 
 /* ---- What is tried where the search ends early. ---- */

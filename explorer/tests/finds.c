@@ -366,41 +366,18 @@ HANDLER(enqueue_in_second, workqueue_enqueue(queues[1], &common, NULL))
 HANDLER(store_and_look, atomic_store_relaxed(&word, 1); (void)mutex_ownable(&one))
 HANDLER(destroy_one, mutex_destroy(&one))
 
-/* Each kind of thing is shown before it is initialised, or after. */
-static struct { kmutex_t lock; kcondvar_t cv; krwlock_t rw; callout_t callout; struct pool pool; } late;
-static unsigned kind;
+/* Each kind of thing is shown before it is initialised. */
+#define LATE(name, thing, init, use) \
+	static thing; \
+	HANDLER(init_##name, atomic_store_release(&flag, true); init) \
+	HANDLER(use_##name, if (atomic_load_acquire(&flag)) { use; })
 
-static void init_late(void)
-{
-	switch (kind) {
-	case 0: mutex_init(&late.lock, MUTEX_DEFAULT, IPL_NONE); break;
-	case 1: cv_init(&late.cv, "late"); break;
-	case 2: rw_init(&late.rw); break;
-	case 3: callout_init(&late.callout, 0); break;
-	default: pool_init(&late.pool, 8, 0, 0, 0, "late", NULL, IPL_NONE);
-	}
-}
-
-BODY(use_shown)
-{
-	if (!atomic_load_acquire(&flag))
-		return;
-	switch (kind) {
-	case 0: mutex_enter(&late.lock); mutex_exit(&late.lock); break;
-	case 1: cv_signal(&late.cv); break;
-	case 2: (void)rw_tryenter(&late.rw, RW_READER); break;
-	case 3: (void)callout_halt(&late.callout, NULL); break;
-	default: pool_destroy(&late.pool);
-	}
-}
-
-HANDLER(show_and_init, atomic_store_release(&flag, true); init_late())
-HANDLER(init_and_show, init_late(); atomic_store_release(&flag, true))
-static void of_kind_0(void) { kind = 0; }
-static void of_kind_1(void) { kind = 1; }
-static void of_kind_2(void) { kind = 2; }
-static void of_kind_3(void) { kind = 3; }
-static void of_kind_4(void) { kind = 4; }
+LATE(lock, kmutex_t late, mutex_init(&late, MUTEX_DEFAULT, IPL_NONE), mutex_enter(&late); mutex_exit(&late))
+LATE(cv, kcondvar_t late_cv, cv_init(&late_cv, "late"), cv_signal(&late_cv))
+LATE(rw, krwlock_t late_rw, rw_init(&late_rw), (void)rw_tryenter(&late_rw, RW_READER))
+LATE(callout, callout_t late_callout, callout_init(&late_callout, 0), (void)callout_halt(&late_callout, NULL))
+LATE(pool, struct pool late_pool, pool_init(&late_pool, 8, 0, 0, 0, "late", NULL, IPL_NONE), pool_destroy(&late_pool))
+HANDLER(show_lock, mutex_init(&late, MUTEX_DEFAULT, IPL_NONE); atomic_store_release(&flag, true))
 
 #define TOO_LATE	"data race: thread \"first\" initialises it at finds.c:*, and thread \"second\" uses it at *finds.c:"
 
@@ -660,12 +637,12 @@ static const struct find finds[] = {
 	{"one work in two queues", "workqueue_enqueue: the work is enqueued already, at *finds.c:",
 	    enqueue_in_first, enqueue_in_second, .make = make_queues, .finish = end_queues},
 	{"a look at a lock that is destroyed", "mutex_ownable: the lock was destroyed", store_and_look, destroy_one},
-	{"a lock that is shown too soon", TOO_LATE, show_and_init, use_shown, .make = of_kind_0},
-	{"a lock that is shown", NULL, init_and_show, use_shown, .make = of_kind_0},
-	{"a condition variable that is shown too soon", TOO_LATE, show_and_init, use_shown, .make = of_kind_1},
-	{"an rwlock that is shown too soon", TOO_LATE, show_and_init, use_shown, .make = of_kind_2},
-	{"a callout that is shown too soon", TOO_LATE, show_and_init, use_shown, .make = of_kind_3},
-	{"a pool that is shown too soon", TOO_LATE, show_and_init, use_shown, .make = of_kind_4},
+	{"a lock that is shown too soon", TOO_LATE, init_lock, use_lock},
+	{"a lock that is shown", NULL, show_lock, use_lock},
+	{"a condition variable that is shown too soon", TOO_LATE, init_cv, use_cv},
+	{"an rwlock that is shown too soon", TOO_LATE, init_rw, use_rw},
+	{"a callout that is shown too soon", TOO_LATE, init_callout, use_callout},
+	{"a pool that is shown too soon", TOO_LATE, init_pool, use_pool},
 	{"bytes side by side", NULL, write_first_byte, write_second_byte},
 	{"atomics of the language", NULL, give_by_language, take_by_language},
 	{"a release that another store ends", "data race: ", store_state, end_release, .third = read_second_state},

@@ -370,40 +370,33 @@ struct thing {
 	unsigned points, needs;
 };
 
+#define DOES(body, points, needs)	{#body, body, points, needs}
+
 static const struct thing simple[] = {
-    {"load 0", load_0, 1, 0}, {"load 1", load_1, 1, 0}, {"store 0", store_0, 1, 0}, {"store 1", store_1, 1, 0}, {"add 0", add_0, 1, 0},
-    {"lock, load", lock_and_load, 3, LOCKS}, {"lock, store", lock_and_store, 3, LOCKS}, {"section", read_section, 3, PSZ}, {"signal", wake_one, 1, CV},
-    {"schedule 0", schedule_0, 3, SOFTINTS}, {"ask one", call_one_alone, 4, 0}, {"count out", count_out, 1, COUNT},
-    {"try lock", try_lock, 2, LOCKS}};
+    DOES(load_0, 1, 0), DOES(load_1, 1, 0), DOES(store_0, 1, 0), DOES(store_1, 1, 0), DOES(add_0, 1, 0), DOES(lock_and_load, 3, LOCKS),
+    DOES(lock_and_store, 3, LOCKS), DOES(read_section, 3, PSZ), DOES(wake_one, 1, CV), DOES(schedule_0, 3, SOFTINTS), DOES(call_one_alone, 4, 0),
+    DOES(count_out, 1, COUNT), DOES(try_lock, 2, LOCKS)};
 
 static const struct thing things_to_do[] = {
-    {"xc_barrier", barrier, 8, 0}, {"broadcast", call_all, 16, 0}, {"broadcast, load", call_all_later, 17, 0}, {"broadcast nothing", call_nobody, 10, 0},
-    {"unicast", call_one, 5, 0}, {"unicast to 1", call_other, 5, 0}, {"high unicast", call_one_above, 5, 0}, {"unicast, load", call_one_later, 6, 0},
-    {"unicast to load", call_to_load, 5, 0}, {"unicast nothing", call_one_for_nothing, 4, 0}, {"ask one", call_one_alone, 4, 0},
-    {"foreach", look_at_parts, 8, PERCPU}, {"foreach_xcall", call_for_parts, 10, PERCPU}, {"part", use_part, 3, PERCPU},
-    {"hook set", set_hook, 12, HOOK}, {"hook unset", unset_hook, 10, HOOK}, {"hook call", call_hook, 6, HOOK}, {"hook call", call_hook, 6, HOOK},
-    {"enqueue", enqueue, 4, QUEUE}, {"await work", await_work, 2, QUEUE}, {"schedule 0", schedule_0, 3, SOFTINTS},
-    {"schedule 1", schedule_1, 6, SOFTINTS | LOCKS},
-    {"schedule 2", schedule_2, 3, SOFTINTS}, {"section", read_section, 3, PSZ}, {"section twice", read_section_twice, 4, PSZ}, {"perform", perform, 1, PSZ},
-    {"refer", refer, 6, TARGET | PSZ}, {"destroy", destroy, 5, TARGET | PSZ}, {"count in", count_in, 5, COUNT},
-    {"count out", count_out, 1, COUNT}, {"drain", drain, 7, COUNT}, {"lock both", lock_01, 5, LOCKS},
-    {"lock both back", lock_10, 5, LOCKS}, {"try lock", try_lock, 2, LOCKS}, {"spin, load", spin_and_load, 3, SPIN}, {"spin, store", spin_and_store, 3, SPIN},
-    {"reader", read_lock, 3, RW}, {"writer", write_lock, 3, RW}, {"await flag", await_flag, 3, LOCKS | CV}, {"set flag", set_flag, 3, LOCKS | CV},
-    {"await a tick", await_flag_for_a_tick, 4, LOCKS | CV}, {"signal", wake_one, 1, CV}, {"pause", pause_once, 2, 0}, {"set callout", set_callout, 5, CALLOUT},
-    {"halt callout", halt_callout, 1, CALLOUT}, {"stop callout", stop_callout, 1, CALLOUT}, {"raise, store", raise_and_store, 3, 0},
-    {"no preemption, load", load_without_preemption, 3, 0}, {"find CPU", find_cpu, 1, 0}, {"cache", use_cache, 3, CACHE}, {"thread", make_and_join, 4, 0},
-    {"raise, wait", raise_and_wait, 5, PSZ}, {"raise, lock", raise_and_lock, 6, LOCKS}, {"raise, await a tick", raise_and_await_a_tick, 7, SPIN | CV},
-    {"kernel lock", lock_kernel, 5, 0}, {"kernel lock, wait", lock_kernel_and_wait, 6, PSZ},
-    {"kernel lock, lock", lock_kernel_and_lock, 8, LOCKS}, {"kernel lock, spin", lock_kernel_and_spin, 7, SPIN}, {"once", run_once, 6, PSZ},
-    {"sleep", sleep_for_a_tick, 2, 0}, {"wake up", wake_sleepers, 1, 0}};
+    DOES(barrier, 8, 0), DOES(call_all, 16, 0), DOES(call_all_later, 17, 0), DOES(call_nobody, 10, 0), DOES(call_one, 5, 0), DOES(call_other, 5, 0),
+    DOES(call_one_above, 5, 0), DOES(call_one_later, 6, 0), DOES(call_to_load, 5, 0), DOES(call_one_for_nothing, 4, 0), DOES(call_one_alone, 4, 0),
+    DOES(look_at_parts, 8, PERCPU), DOES(call_for_parts, 10, PERCPU), DOES(use_part, 3, PERCPU), DOES(set_hook, 12, HOOK), DOES(unset_hook, 10, HOOK),
+    DOES(call_hook, 6, HOOK), DOES(call_hook, 6, HOOK), DOES(enqueue, 4, QUEUE), DOES(await_work, 2, QUEUE), DOES(schedule_0, 3, SOFTINTS),
+    DOES(schedule_1, 6, SOFTINTS | LOCKS), DOES(schedule_2, 3, SOFTINTS), DOES(read_section, 3, PSZ), DOES(read_section_twice, 4, PSZ),
+    DOES(perform, 1, PSZ), DOES(refer, 6, TARGET | PSZ), DOES(destroy, 5, TARGET | PSZ), DOES(count_in, 5, COUNT), DOES(count_out, 1, COUNT),
+    DOES(drain, 7, COUNT), DOES(lock_01, 5, LOCKS), DOES(lock_10, 5, LOCKS), DOES(try_lock, 2, LOCKS), DOES(spin_and_load, 3, SPIN),
+    DOES(spin_and_store, 3, SPIN), DOES(read_lock, 3, RW), DOES(write_lock, 3, RW), DOES(await_flag, 3, LOCKS | CV), DOES(set_flag, 3, LOCKS | CV),
+    DOES(await_flag_for_a_tick, 4, LOCKS | CV), DOES(wake_one, 1, CV), DOES(pause_once, 2, 0), DOES(set_callout, 5, CALLOUT),
+    DOES(halt_callout, 1, CALLOUT), DOES(stop_callout, 1, CALLOUT), DOES(raise_and_store, 3, 0), DOES(load_without_preemption, 3, 0), DOES(find_cpu, 1, 0),
+    DOES(use_cache, 3, CACHE), DOES(make_and_join, 4, 0), DOES(raise_and_wait, 5, PSZ), DOES(raise_and_lock, 6, LOCKS),
+    DOES(raise_and_await_a_tick, 7, SPIN | CV), DOES(lock_kernel, 5, 0), DOES(lock_kernel_and_wait, 6, PSZ), DOES(lock_kernel_and_lock, 8, LOCKS),
+    DOES(lock_kernel_and_spin, 7, SPIN), DOES(run_once, 6, PSZ), DOES(sleep_for_a_tick, 2, 0), DOES(wake_sleepers, 1, 0)};
 
 static const struct thing only_written[] = {
-    {"count in, unless gone", count_in_unless_gone, 5, COUNT}, {"tear down by perform", tear_down_by_perform, 7, COUNT},
-    {"tear down by barrier", tear_down_by_barrier, 14, COUNT}, {"acquire", acquire_local, 1, COUNT}, {"release any", release_any, 1, COUNT},
-    {"load object", load_object, 1, 0}, {"destroy cache", destroy_cache, 2, OBJECT},
-    {"put object", put_object, 1, PUT}, {"init spare", init_spare, 1, 0}, {"own spare", own_spare, 1, 0}, {"destroy spare", destroy_spare, 1, SPARE},
-    {"destroy psz", destroy_psz, 1, PSZ}, {"enqueue common", enqueue_common, 6, QUEUES | LOCKS}, {"fail", fail, 1, 0},
-    {"lock, fail", lock_and_fail, 3, LOCKS}};
+    DOES(count_in_unless_gone, 5, COUNT), DOES(tear_down_by_perform, 7, COUNT), DOES(tear_down_by_barrier, 14, COUNT), DOES(acquire_local, 1, COUNT),
+    DOES(release_any, 1, COUNT), DOES(load_object, 1, 0), DOES(destroy_cache, 2, OBJECT), DOES(put_object, 1, PUT), DOES(init_spare, 1, 0),
+    DOES(own_spare, 1, 0), DOES(destroy_spare, 1, SPARE), DOES(destroy_psz, 1, PSZ), DOES(enqueue_common, 6, QUEUES | LOCKS), DOES(fail, 1, 0),
+    DOES(lock_and_fail, 3, LOCKS)};
 
 struct text {
 	int cpu;	/* below 0: the thread isn't bound */

@@ -1,8 +1,8 @@
 /*
  * cases.h - a test's table of cases: what each does, and the line on standard error that it ends with
  *
- * STOPS(line, ..) is a case whose process ends by abort(3) after its line, WAITS(line, ..) one that ends well. What is a place there, FILE:NUMBER, is PLACE
- * in the line. start_thread and end_thread are declared before this file is included: those of test.h, or those of the explorer.
+ * ENDS(line, ..) is a case whose process ends by abort(3) after its line, STOPS(line, ..) one whose line has the call's place at its end, and WAITS(line, ..)
+ * one that ends well. What is a place there, FILE:NUMBER, is PLACE in the line. start_thread and end_thread are declared before this file is included: those of test.h, or those of the explorer.
  */
 #ifndef NETBSD_CASES_H
 #define NETBSD_CASES_H
@@ -33,7 +33,8 @@ static inline void add_case(void (*body)(void), const char *line, bool goes_on)
 #define CASE(line, goes_on, ...) \
 	static void NAMED(body_, __LINE__)(void) { __VA_ARGS__; } \
 	__attribute__((constructor)) static void NAMED(add_, __LINE__)(void) { add_case(NAMED(body_, __LINE__), line, goes_on); }
-#define STOPS(line, ...)	CASE(line, false, __VA_ARGS__)
+#define ENDS(line, ...)		CASE(line, false, __VA_ARGS__)
+#define STOPS(line, ...)	ENDS(line ", at PLACE", __VA_ARGS__)
 #define WAITS(line, ...)	CASE(line, true, __VA_ARGS__)
 
 static inline void on_thread(void *(*body)(void *))

@@ -49,29 +49,29 @@ HANDLER(nothing, (void)0)
 
 /* ---- The first call of a process, and of a thread. ---- */
 
-STOPS("kupaldiz_netbsd: no key of a thread is left", lacks = KEY; kupaldiz_bind(0))
-STOPS("kupaldiz_netbsd: out of memory", lacks = AT_FORK; kupaldiz_bind(0))
+ENDS("kupaldiz_netbsd: no key of a thread is left", lacks = KEY; kupaldiz_bind(0))
+ENDS("kupaldiz_netbsd: out of memory", lacks = AT_FORK; kupaldiz_bind(0))
 THREAD(bind_without_memory, lacks = CALLOC; kupaldiz_bind(1))
-STOPS("kupaldiz_bind: out of memory, at PLACE", open_without(NOTHING_LACKS); on_thread(bind_without_memory))
+STOPS("kupaldiz_bind: out of memory", open_without(NOTHING_LACKS); on_thread(bind_without_memory))
 THREAD(bind_without_value, lacks = VALUE; kupaldiz_bind(1))
-STOPS("kupaldiz_bind: out of memory, at PLACE", open_without(NOTHING_LACKS); on_thread(bind_without_value))
+STOPS("kupaldiz_bind: out of memory", open_without(NOTHING_LACKS); on_thread(bind_without_value))
 
-STOPS("psref_class_create: out of memory, at PLACE", open_without(CALLOC); psref_class_create("other", IPL_NONE))
-STOPS("psref_acquire: out of memory, at PLACE", struct psref psref; open_without(REALLOC); psref_acquire(&psref, &target, things))
-STOPS("localcount_init: out of memory, at PLACE", struct localcount other; open_without(ALIGNED); localcount_init(&other))
+STOPS("psref_class_create: out of memory", open_without(CALLOC); psref_class_create("other", IPL_NONE))
+STOPS("psref_acquire: out of memory", struct psref psref; open_without(REALLOC); psref_acquire(&psref, &target, things))
+STOPS("localcount_init: out of memory", struct localcount other; open_without(ALIGNED); localcount_init(&other))
 /* The table of those that are live grows. */
-STOPS("psref_target_init: out of memory, at PLACE",
+STOPS("psref_target_init: out of memory",
     static struct psref_target many[100]; open_without(REALLOC);
     for (unsigned at = 0; at < 100; at++)
 	    psref_target_init(&many[at], things))
-STOPS("kmem_alloc: out of memory, at PLACE", open_without(MALLOC); kmem_alloc(8, KM_SLEEP))
-STOPS("percpu_alloc: out of memory, at PLACE", open_without(ALIGNED); percpu_alloc(8))
-STOPS("softint_schedule: no thread is left, at PLACE",
+STOPS("kmem_alloc: out of memory", open_without(MALLOC); kmem_alloc(8, KM_SLEEP))
+STOPS("percpu_alloc: out of memory", open_without(ALIGNED); percpu_alloc(8))
+STOPS("softint_schedule: no thread is left",
     open_without(NOTHING_LACKS); void *cookie = softint_establish(SOFTINT_NET, nothing, NULL); lacks = THREADS; softint_schedule(cookie))
-STOPS("callout_init: out of memory", open_without(THREADS); callout_init(&callout, CALLOUT_MPSAFE))
-STOPS("callout_init: out of memory", open_without(CALLOC); callout_init(&callout, CALLOUT_MPSAFE))
+ENDS("callout_init: out of memory", open_without(THREADS); callout_init(&callout, CALLOUT_MPSAFE))
+ENDS("callout_init: out of memory", open_without(CALLOC); callout_init(&callout, CALLOUT_MPSAFE))
 /* The clock's thread begins the soft interrupts of a CPU, for a callout that is due there. */
-STOPS("callout: no thread is left",
+ENDS("callout: no thread is left",
     open_without(NOTHING_LACKS); callout_init(&callout, CALLOUT_MPSAFE); lacks = THREADS; callout_reset(&callout, 1, nothing, NULL);
     sleep_for(20000000))
 
@@ -90,7 +90,7 @@ static void require_no_memory(void)
 	pool_destroy(&pool);
 	pool_cache_destroy(cache);
 }
-STOPS("panic: memory was told to be out, at PLACE", require_no_memory(); panic("memory was told to be out"))
+STOPS("panic: memory was told to be out", require_no_memory(); panic("memory was told to be out"))
 
 static void do_no_work(struct work *work, void *arg) { (void)work; (void)arg; }
 
@@ -106,26 +106,26 @@ static void require_no_threads(void)
 	EXPECT(softint_establish(SOFTINT_NET, nothing, NULL) == NULL);
 	lacks = NOTHING_LACKS;
 }
-STOPS("panic: threads were told to be out, at PLACE", require_no_threads(); panic("threads were told to be out"))
+STOPS("panic: threads were told to be out", require_no_threads(); panic("threads were told to be out"))
 
-STOPS("kmem_free: no block of kmem's, or one that was given back, at PLACE",
+STOPS("kmem_free: no block of kmem's, or one that was given back",
     void *block = kmem_alloc(32, KM_SLEEP); keeps = true; kmem_free(block, 32); kmem_free(block, 32))
-STOPS("pool_put: no object of thingpl, or one that was given back, at PLACE",
+STOPS("pool_put: no object of thingpl, or one that was given back",
     pool_init(&pool, 24, 0, 0, 0, "thingpl", NULL, IPL_NONE); void *object = pool_get(&pool, PR_WAITOK); keeps = true; pool_put(&pool, object);
     pool_put(&pool, object))
-STOPS("pool_cache_put: no object of thingpl, or one that was given back, at PLACE",
+STOPS("pool_cache_put: no object of thingpl, or one that was given back",
     pool_cache_t cache = pool_cache_init(24, 0, 0, 0, "thingpl", NULL, IPL_NONE, NULL, NULL, NULL); void *object = pool_cache_get(cache, PR_WAITOK);
     keeps = true; pool_cache_put(cache, object); pool_cache_put(cache, object))
 
-STOPS("percpu_create: inside a read section, entered at PLACE, at PLACE", pserialize_read_enter(); percpu_create(8, NULL, NULL, NULL))
+STOPS("percpu_create: inside a read section, entered at PLACE", pserialize_read_enter(); percpu_create(8, NULL, NULL, NULL))
 /* More than all memory, by itself, and once it is there for each CPU. */
-STOPS("percpu_alloc: out of memory, at PLACE", percpu_alloc(SIZE_MAX))
-STOPS("percpu_create: out of memory, at PLACE", percpu_create(SIZE_MAX / KUPALDIZ_CPUS + 1, NULL, NULL, NULL))
+STOPS("percpu_alloc: out of memory", percpu_alloc(SIZE_MAX))
+STOPS("percpu_create: out of memory", percpu_create(SIZE_MAX / KUPALDIZ_CPUS + 1, NULL, NULL, NULL))
 static void look(void *own, void *arg, struct cpu_info *cpu) { EXPECT(own != NULL && arg == NULL && cpu != NULL); }
-STOPS("percpu_foreach_xcall: inside a read section, entered at PLACE",
+ENDS("percpu_foreach_xcall: inside a read section, entered at PLACE",
     percpu_t *percpu = percpu_alloc(8); pserialize_read_enter(); percpu_foreach_xcall(percpu, 0, look, NULL))
 /* The place is that of the call whose argument visits each CPU. */
 static void *visit_all(void) { percpu_foreach_xcall(percpu_alloc(8), 0, look, NULL); return NULL; }
-STOPS("kmem_free: no block, at PLACE", kmem_free(visit_all(), 8))
+STOPS("kmem_free: no block", kmem_free(visit_all(), 8))
 
 int main(void) { return run_cases(begin); }

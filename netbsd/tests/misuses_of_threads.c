@@ -80,7 +80,7 @@ static void begin(void)
 }
 
 /* The layer isn't for the child of a fork whose parent has called it. */
-STOPS("pserialize_read_enter: in the child of a fork, at PLACE",
+STOPS("pserialize_read_enter: in the child of a fork",
     int status; pid_t child = fork(); EXPECT(child >= 0);
     if (child == 0) {
 	    pserialize_read_enter();
@@ -91,14 +91,14 @@ STOPS("pserialize_read_enter: in the child of a fork, at PLACE",
 /* The layer ends a thread one round before. */
 THREAD(end_holding,
     static unsigned rounds; EXPECT(pthread_setspecific(early, &rounds) == 0); kupaldiz_bind(1); psref_acquire(&psref, &target, things))
-STOPS("pthread_exit: the thread has passive references", on_thread(end_holding))
+ENDS("pthread_exit: the thread has passive references", on_thread(end_holding))
 
 /* Two join one thread: the first has found it, and doesn't wait for it yet. */
 static void join_at(const char *place) { kupaldiz_at(place); EXPECT((kthread_join)(worker) == 0); }
 HANDLER(exit_at_once, kthread_exit(0))
 THREAD(join_second, join_at("the second call"))
 static void join_beside(void) { on_thread(join_second); }
-STOPS("kthread_join: no thread that was made with KTHREAD_MUSTJOIN, at the second call",
+ENDS("kthread_join: no thread that was made with KTHREAD_MUSTJOIN, at the second call",
     EXPECT(kthread_create(PRI_NONE, KTHREAD_MUSTJOIN, NULL, exit_at_once, NULL, &worker, "worker") == 0); after = join_beside; join_at("the first call"))
 
 /* A soft interrupt whose end waits for its handler isn't established any more. */
@@ -123,17 +123,17 @@ static void run_on_4(void (*handler)(void *))
 	await_flag(&runs);
 }
 THREAD(end_softint, softint_disestablish(cookie))
-STOPS("softint_schedule: the soft interrupt is not established, at PLACE", run_on_4(run_again); on_thread(end_softint))
-STOPS("softint_disestablish: the soft interrupt is not established, at PLACE",
+STOPS("softint_schedule: the soft interrupt is not established", run_on_4(run_again); on_thread(end_softint))
+STOPS("softint_disestablish: the soft interrupt is not established",
     pthread_t ender; run_on_4(run_long); start_thread(&ender, end_softint, NULL); on_thread(end_softint))
 
 /* The same while the thread for its handler begins. */
 HANDLER(run_never, (void)0)
-STOPS("softint_schedule: the soft interrupt is not established, at PLACE",
+STOPS("softint_schedule: the soft interrupt is not established",
     cookie = softint_establish(SOFTINT_NET, run_never, NULL); atomic_store(&comes_before, end_softint); softint_schedule(cookie))
 
 /* There is room for six places. One more begins anew: the call after the next one has none. */
-STOPS("mutex_enter: the thread has the lock already, taken at the seventh place",
+ENDS("mutex_enter: the thread has the lock already, taken at the seventh place",
     for (unsigned i = 0; i < 6; i++)
 	    kupaldiz_at("one of six places");
     kupaldiz_at("the seventh place");
@@ -141,7 +141,7 @@ STOPS("mutex_enter: the thread has the lock already, taken at the seventh place"
 
 /* A thread that was cancelled and hasn't come to its end yet. The line has the name of a thread: the layer asks the system for it. */
 THREAD(destroy_cancelled, EXPECT(pthread_cancel(pthread_self()) == 0); mutex_destroy(&held))
-STOPS("mutex_destroy: the lock is held: thread \"misuses_of_thre\" took it at PLACE, at PLACE", on_thread(destroy_cancelled))
+STOPS("mutex_destroy: the lock is held: thread \"misuses_of_thre\" took it at PLACE", on_thread(destroy_cancelled))
 
 enum { ROOM = 512, TEXT = 500, MOST = ROOM - 2 };	/* a line has MOST bytes, and its newline */
 
@@ -162,10 +162,10 @@ static void report_with_place(size_t length)
 	long_place[length] = '\0';
 	kupaldiz_failed("KASSERT", long_text, long_place);
 }
-STOPS(whole, report_with_place(write_whole()))
-STOPS(whole, report_with_place(write_whole() + 1))
+ENDS(whole, report_with_place(write_whole()))
+ENDS(whole, report_with_place(write_whole() + 1))
 /* What can't be written is told by the reason. */
-STOPS("KASSERT: No space left on device", is_full = true; kupaldiz_failed("KASSERT", "1 + 1 == 3", NULL))
+ENDS("KASSERT: No space left on device", is_full = true; kupaldiz_failed("KASSERT", "1 + 1 == 3", NULL))
 
 static atomic_bool ready;
 
@@ -183,13 +183,13 @@ static void destroy_of(const char *name)
 }
 
 #define TAKEN_BY(name)	"mutex_destroy: the lock is held: thread \"" name "\" took it at PLACE, at PLACE"
-STOPS(TAKEN_BY("w"), EXPECT(kthread_create(PRI_NONE, 0, NULL, keep_lock, NULL, NULL, "w") == 0); destroy_taken())
-STOPS(TAKEN_BY("fifteen_letters"), destroy_of("fifteen_letters"))
-STOPS(TAKEN_BY(""), destroy_of(""))
+ENDS(TAKEN_BY("w"), EXPECT(kthread_create(PRI_NONE, 0, NULL, keep_lock, NULL, NULL, "w") == 0); destroy_taken())
+ENDS(TAKEN_BY("fifteen_letters"), destroy_of("fifteen_letters"))
+ENDS(TAKEN_BY(""), destroy_of(""))
 /* The first file that is opened then is the one of number 0. */
-STOPS(TAKEN_BY("keeper"), __real_close(STDIN_FILENO); destroy_of("keeper"))
-STOPS(TAKEN_BY("?"), instead = "/dev/null/none"; destroy_of("keeper"))
-STOPS(TAKEN_BY("?"), instead = "/dev/null"; destroy_of("keeper"))
+ENDS(TAKEN_BY("keeper"), __real_close(STDIN_FILENO); destroy_of("keeper"))
+ENDS(TAKEN_BY("?"), instead = "/dev/null/none"; destroy_of("keeper"))
+ENDS(TAKEN_BY("?"), instead = "/dev/null"; destroy_of("keeper"))
 
 int main(void)
 {

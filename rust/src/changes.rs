@@ -16,9 +16,8 @@ use std::sync::Arc;
 type Changed<T, R = Entry> = Result<R, Refused<AttachError, T>>;
 
 /// Changes. An attach and a detach drop no `T`, so a caller may hold a lock that the drop of a `T`
-/// takes. They [may wake](crate#your-code-in-a-call) tasks. Each is on a CPU that the crate
-/// chooses, and fails first with `NoCpu`, if [there is none](Registry::cpus); a [`Cpu`] has the
-/// same calls.
+/// takes; but they [may wake](crate#your-code-in-a-call) tasks. Each fails first with `NoCpu`, if
+/// [there is none](Registry::cpus) to choose; a [`Cpu`] has the same calls.
 impl<T> Registry<T> {
     /// Attaches an entry that carries this value. Lookups that begin after this call has returned
     /// find it, until it is detached or replaced.
@@ -37,9 +36,8 @@ impl<T> Registry<T> {
 
     /// Attaches an interface that carries this value, as [`attach`](Registry::attach) does, on the
     /// live driver with the name `driver`. The interface's slot keeps a local reference, so the
-    /// driver outlives the interface, and so does what each carries: the driver's value is neither
-    /// returned nor dropped before the interface's was. So the drop of an interface's value can't
-    /// wait until its driver is freed.
+    /// driver outlives the interface; and its value is neither returned nor dropped before the
+    /// interface's was. So the drop of an interface's value can't wait until its driver is freed.
     ///
     /// ```
     /// use kupaldiz::{Kind, Patience, Registry, Settings};

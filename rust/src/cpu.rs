@@ -15,12 +15,11 @@ use std::sync::Arc;
 /// One of the registry's CPUs, for the thread that has it: for those who count cycles, since a
 /// lookup on it takes no step that another thread waits for. It is a handle, not a processor. It
 /// co-owns its registry. It may be stored, and go to another thread. Sections and passive
-/// references borrow it, so it can't be moved or dropped while one exists: a struct that owns both
-/// has a [`PassiveRc`](crate::PassiveRc). More threads than CPUs share them by a
-/// [`CpuPool`](crate::CpuPool), or make the calls of [`Registry`].
+/// references borrow it: a struct that owns both has a [`PassiveRc`](crate::PassiveRc). More
+/// threads than CPUs share them by a [`CpuPool`](crate::CpuPool), or make the calls of
+/// [`Registry`].
 ///
-/// A CPU that is dropped goes back to its registry. [`Registry::cpu`] and [`Registry::any_cpu`]
-/// return it again.
+/// A CPU that is dropped goes back to its registry.
 ///
 /// ```
 /// use kupaldiz::{Name, Registry, Settings};

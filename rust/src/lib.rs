@@ -172,6 +172,7 @@
 mod basket;
 mod carried;
 mod changes;
+mod choice;
 mod cpu;
 mod error;
 mod ffi;

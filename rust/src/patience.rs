@@ -4,10 +4,9 @@ use std::hint;
 use std::thread;
 use std::time::{Duration, Instant};
 
-/// How long [`Retired::destroy`](crate::Retired::destroy) and
-/// [`Cpu::synchronize`](crate::Cpu::synchronize) keep trying. They also take a [`Duration`] or an
-/// [`Instant`]. Each tries at least once. One try is a turn. Between two turns the call holds no
-/// lock, and waits as `kupaldiz_destroy_wait` does, in this order:
+/// How long a call such as [`Retired::destroy`](crate::Retired::destroy) keeps trying, at least
+/// once. It also takes a [`Duration`] or an [`Instant`]. One try is a turn. Between two turns the
+/// call holds no lock, and waits as `kupaldiz_destroy_wait` does, in this order:
 ///
 /// 1. It spins 16 times, for 1, 2, 4, .. 256 and then 256 pause instructions: 2,303 in all, some 90
 ///    microseconds. If a reader's thread runs, its section is over by then.

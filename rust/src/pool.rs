@@ -17,11 +17,9 @@ use std::thread::{self, ThreadId};
 use std::time::Instant;
 
 /// CPUs of one registry that any thread may borrow, each for a batch of calls: for one call the
-/// registry [chooses one itself](crate::Registry::get). Threads use the pool by reference, and a
-/// `static` may have one. Lending and taking back take a lock each.
-///
-/// A section or a [`PassiveRef`](crate::PassiveRef) on a lent CPU borrows the loan. To sleep,
-/// acquire a [`LocalRef`](crate::LocalRef), and drop the loan.
+/// registry [chooses one itself](crate::Registry::get). Lending and taking back take a lock each. A
+/// section or a [`PassiveRef`](crate::PassiveRef) on a lent CPU borrows the loan: to sleep, acquire
+/// a [`LocalRef`](crate::LocalRef), and drop the loan.
 ///
 /// A thread needs one loan at a time. Name it by a `let`: of two loans in one expression, the second
 /// would wait for the first where the pool has one CPU. [`lend`](CpuPool::lend) panics then.

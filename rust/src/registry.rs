@@ -91,8 +91,8 @@ impl<T> Registry<T> {
         Ok(Registry::of(Arc::new(Shared::open(settings, true)?)))
     }
 
-    /// A local reference to the live entry of this name. Until it is dropped, the entry keeps its
-    /// value. It needs no CPU, and may go to other threads.
+    /// A local reference to the live entry of this name, for as long as it is wanted. It may go to
+    /// other threads.
     ///
     /// # Errors
     ///
@@ -142,8 +142,8 @@ impl<T> Registry<T> {
         self.shared().settings
     }
 
-    /// The CPU with this number, if nobody has it. If a call of another thread has chosen it, this
-    /// waits until that call ends. It still has the passive references that were forgotten on it.
+    /// The CPU with this number, if nobody has it. A call of another thread that has chosen it is
+    /// waited for. It still has the passive references that were forgotten on it.
     #[must_use]
     pub fn cpu(&self, id: u8) -> Option<Cpu<T>> {
         self.seats.unseat(id)
@@ -156,8 +156,7 @@ impl<T> Registry<T> {
     }
 
     /// All CPUs that nobody has, in order. The registry's own calls then share one that is none of
-    /// these; with as many CPUs as [`LIMITS`](crate::LIMITS) has there is none, and they fail with
-    /// `NoCpu`.
+    /// these. If it has as many CPUs as [`LIMITS`](crate::LIMITS), they fail with `NoCpu`.
     #[must_use]
     pub fn cpus(&self) -> Vec<Cpu<T>> {
         (0..self.settings().cpus).filter_map(|id| self.cpu(id)).collect()

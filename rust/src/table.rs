@@ -1,9 +1,9 @@
 //! A table of any number of names, over registries.
 
+use crate::choice::{Choice, Memory};
 use crate::cpu::Cpu;
 use crate::error::{AttachError, CloseError, CpusError, DetachError, LookUpError, OpenError};
 use crate::error::{Refused, SynchronizeError};
-use crate::ffi;
 use crate::name::Key;
 use crate::patience::{Patience, Pauses};
 use crate::references::{LocalRef, PassiveRef};
@@ -13,9 +13,7 @@ use crate::section::{Found, ReadGuard};
 use crate::settings::Settings;
 use crate::shared::Shared;
 use crate::values::{Balance, Entry, Freed};
-use std::collections::hash_map::RandomState;
 use std::fmt;
-use std::hash::{BuildHasher, Hasher};
 use std::iter;
 use std::sync::Arc;
 
@@ -47,67 +45,24 @@ pub struct Table<T> {
     choice: Choice,
 }
 
-/// How a name chooses its registry, and a number says which it is of.
-#[derive(Clone)]
-struct Choice {
-    secret: RandomState,
-    registries: usize,
-    /// Of each registry.
-    slots: u8,
-    /// What the table was opened for.
-    entries: u32,
-    /// Of a number, which say whose it is.
-    bits: u32,
-}
-
-impl Choice {
-    /// One registry if all entries fit in it. Else as few as have two slots for each entry.
-    fn of(entries: u32) -> Choice {
-        let most = ffi::MOST_SLOTS as u64;
-        let (entries_all, divided_up) = (u64::from(entries), |by: u64, of: u64| (of + by - 1) / by);
-        let (registries, slots) = if entries_all <= most {
-            (1, entries_all)
-        } else {
-            let registries = divided_up(most, 2 * entries_all);
-            (registries, divided_up(registries, 2 * entries_all))
-        };
-        Choice {
-            secret: RandomState::new(),
-            registries: registries as usize,
-            slots: slots as u8,
-            entries,
-            bits: registries.next_power_of_two().trailing_zeros(),
+/// What an attach returns that a registry has refused.
+fn judged<'a, T: 'a>(
+    choice: &Choice,
+    refused: Refused<AttachError, T>,
+    mut all: impl Iterator<Item = &'a Arc<Shared<T>>>,
+) -> Refused<AttachError, T> {
+    let mut left = u64::from(choice.entries);
+    let mut has_room = || {
+        all.all(|shared| {
+            left = left.saturating_sub(shared.kept().occupied() as u64);
+            left > 0
+        })
+    };
+    match refused.refusal {
+        AttachError::NoSlot if choice.registries > 1 && has_room() => {
+            Refused { refusal: AttachError::Crowded, ..refused }
         }
-    }
-
-    /// The index of the name's registry.
-    #[inline]
-    fn index(&self, key: Key) -> usize {
-        let mut hasher = self.secret.build_hasher();
-        hasher.write_u64(key.words.high);
-        hasher.write_u64(key.words.low);
-        (((hasher.finish() >> 32) * self.registries as u64) >> 32) as usize
-    }
-
-    /// What an attach returns that a registry has refused.
-    fn judged<'a, T: 'a>(
-        &self,
-        refused: Refused<AttachError, T>,
-        mut all: impl Iterator<Item = &'a Arc<Shared<T>>>,
-    ) -> Refused<AttachError, T> {
-        let mut left = u64::from(self.entries);
-        let mut has_room = || {
-            all.all(|shared| {
-                left = left.saturating_sub(shared.kept().occupied() as u64);
-                left > 0
-            })
-        };
-        match refused.refusal {
-            AttachError::NoSlot if self.registries > 1 && has_room() => {
-                Refused { refusal: AttachError::Crowded, ..refused }
-            }
-            _ => refused,
-        }
+        _ => refused,
     }
 }
 
@@ -131,9 +86,11 @@ impl<T> Table<T> {
         Ok(Table { registries, choice })
     }
 
+    /// Makes a call of the registry that a name chooses.
     #[inline]
-    fn registry(&self, key: Key) -> &Registry<T> {
-        &self.registries[self.choice.index(key)]
+    fn on<'a, R>(&'a self, key: impl Into<Key>, call: impl FnOnce(&'a Registry<T>, Key) -> R) -> R {
+        let key = key.into();
+        call(&self.registries[self.choice.index(key)], key)
     }
 
     /// The registry that an entry is of, and its index.
@@ -148,7 +105,30 @@ impl<T> Table<T> {
         let threads = self.registries[0].settings().cpus;
         let cpus_of = |id| self.registries.iter().map(|registry| registry.cpu(id)).collect();
         let cpus: Box<[Cpu<T>]> = (0..threads).find_map(cpus_of)?;
-        Some(TableThread { cpus, choice: self.choice.clone() })
+        Some(TableThread { cpus, memory: self.choice.memory(), choice: self.choice.clone() })
+    }
+
+    /// The same, as soon as one is free, if one is within the patience: for more threads than
+    /// handles. Keep a handle for many calls, as it begins with an empty memory.
+    ///
+    /// ```
+    /// use kupaldiz::{Patience, Table};
+    ///
+    /// let table = Table::<u64>::open(1, 1000).unwrap();
+    /// let thread = table.thread().unwrap();
+    /// assert!(table.thread_within(Patience::Turns(3)).is_none());
+    /// drop(thread);
+    /// assert!(table.thread_within(Patience::Forever).is_some());
+    /// ```
+    #[must_use]
+    pub fn thread_within(&self, patience: impl Into<Patience>) -> Option<TableThread<T>> {
+        let mut pauses = Pauses::new(patience.into());
+        loop {
+            let thread = self.thread();
+            if thread.is_some() || !pauses.another() {
+                return thread;
+            }
+        }
     }
 
     /// As [`Registry::get`]: a local reference, which may go to other threads.
@@ -157,10 +137,8 @@ impl<T> Table<T> {
     ///
     /// As of that call.
     #[inline]
-    #[track_caller]
     pub fn get(&self, key: impl Into<Key>) -> Result<LocalRef<T>, LookUpError> {
-        let key = key.into();
-        self.registry(key).get(key)
+        self.on(key, Registry::get)
     }
 
     /// As [`Registry::look_up`].
@@ -170,8 +148,7 @@ impl<T> Table<T> {
     /// As of that call.
     #[inline]
     pub fn look_up(&self, key: impl Into<Key>) -> Result<Entry, LookUpError> {
-        let key = key.into();
-        self.registry(key).look_up(key)
+        self.on(key, Registry::look_up)
     }
 
     /// As [`Registry::attach`].
@@ -180,11 +157,11 @@ impl<T> Table<T> {
     ///
     /// As of that call. `NoSlot` says that the table has as many entries as it was opened for, or
     /// more. [`Crowded`](AttachError::Crowded) says that the registry of this name is full, and the
-    /// table isn't. The probability that any of R registries is full of n names that were chosen
-    /// without the secret is below R (e/4)^(n/R), which is below 10^-13 for each n.
+    /// table isn't. The probability that any of R registries is full of names that were chosen
+    /// without the secret, with m in each on average, is below R (e/4)^m / sqrt(4 pi m), which is
+    /// below 10^-12 for each size.
     pub fn attach(&self, key: impl Into<Key>, value: T) -> Result<Entry, Refused<AttachError, T>> {
-        let key = key.into();
-        self.registry(key).attach(key, value).map_err(|refused| self.judged(refused))
+        self.on(key, |its, key| its.attach(key, value)).map_err(|refused| self.judged(refused))
     }
 
     /// As [`Registry::replace`].
@@ -197,12 +174,11 @@ impl<T> Table<T> {
         key: impl Into<Key>,
         value: T,
     ) -> Result<(Entry, Retired<T>), Refused<AttachError, T>> {
-        let key = key.into();
-        self.registry(key).replace(key, value).map_err(|refused| self.judged(refused))
+        self.on(key, |its, key| its.replace(key, value)).map_err(|refused| self.judged(refused))
     }
 
     fn judged(&self, refused: Refused<AttachError, T>) -> Refused<AttachError, T> {
-        self.choice.judged(refused, self.registries.iter().map(Registry::shared))
+        judged(&self.choice, refused, self.registries.iter().map(Registry::shared))
     }
 
     /// As [`Registry::detach`].
@@ -211,8 +187,7 @@ impl<T> Table<T> {
     ///
     /// As of that call.
     pub fn detach(&self, key: impl Into<Key>) -> Result<Retired<T>, DetachError> {
-        let key = key.into();
-        self.registry(key).detach(key)
+        self.on(key, Registry::detach)
     }
 
     /// As [`Registry::detach_entry`].
@@ -231,8 +206,7 @@ impl<T> Table<T> {
     ///
     /// As of that call.
     pub fn retire(&self, key: impl Into<Key>) -> Result<Vec<Freed<T>>, DetachError> {
-        let key = key.into();
-        self.registry(key).retire(key)
+        self.on(key, Registry::retire)
     }
 
     /// As [`Registry::free_deferred`], of all registries.
@@ -264,7 +238,7 @@ impl<T> Table<T> {
     #[must_use]
     pub fn number(&self, entry: &Entry) -> Option<u64> {
         let (index, _) = self.registry_of(entry)?;
-        Some(entry.number << self.choice.bits | index as u64)
+        Some(self.choice.number(entry.number, index))
     }
 
     /// What the counts say of an entry, live or retired, as [`Registry::audit`] does. It needs all
@@ -334,18 +308,18 @@ impl<T> Table<T> {
 
 impl<T> fmt::Debug for Table<T> {
     fn fmt(&self, f: &mut fmt::Formatter<'_>) -> fmt::Result {
-        let Choice { registries, slots, entries, .. } = self.choice;
         f.debug_struct("Table")
-            .field("entries", &entries)
-            .field("registries", &registries)
-            .field("slots", &slots)
+            .field("entries", &self.choice.entries)
+            .field("registries", &self.choice.registries)
+            .field("slots", &self.choice.slots)
             .finish_non_exhaustive()
     }
 }
 
 /// A thread's handle of a [`Table`]: a [`Cpu`] of each registry. It co-owns them. One thread at a
 /// time uses it, without a step that another thread waits for. References that stay on the thread
-/// borrow it.
+/// borrow it. It remembers which registry names chose, in 40 to 80 bytes for each of the table's
+/// entries, so that it seldom hashes a name twice.
 ///
 /// ```
 /// use kupaldiz::Table;
@@ -358,13 +332,16 @@ impl<T> fmt::Debug for Table<T> {
 /// ```
 pub struct TableThread<T> {
     cpus: Box<[Cpu<T>]>,
+    memory: Memory,
     choice: Choice,
 }
 
 impl<T> TableThread<T> {
+    /// Makes a call on the CPU of the registry that a name chooses.
     #[inline]
-    fn cpu(&self, key: Key) -> &Cpu<T> {
-        &self.cpus[self.choice.index(key)]
+    fn on<'a, R>(&'a self, key: impl Into<Key>, call: impl FnOnce(&'a Cpu<T>, Key) -> R) -> R {
+        let key = key.into();
+        call(&self.cpus[self.memory.index(&self.choice, key)], key)
     }
 
     /// Its number, from 0: that of its CPUs, which the error of a destroy names.
@@ -378,10 +355,8 @@ impl<T> TableThread<T> {
     ///
     /// As of that call.
     #[inline]
-    #[track_caller]
     pub fn get(&self, key: impl Into<Key>) -> Result<PassiveRef<'_, T>, LookUpError> {
-        let key = key.into();
-        self.cpu(key).get(key)
+        self.on(key, Cpu::get)
     }
 
     /// As [`Cpu::get_local`]: a local reference, which may go to other threads.
@@ -390,10 +365,8 @@ impl<T> TableThread<T> {
     ///
     /// As of that call.
     #[inline]
-    #[track_caller]
     pub fn get_local(&self, key: impl Into<Key>) -> Result<LocalRef<T>, LookUpError> {
-        let key = key.into();
-        self.cpu(key).get_local(key)
+        self.on(key, Cpu::get_local)
     }
 
     /// As [`Cpu::read`]: the entry with a section of its registry.
@@ -402,10 +375,8 @@ impl<T> TableThread<T> {
     ///
     /// As of that call.
     #[inline]
-    #[track_caller]
     pub fn read(&self, key: impl Into<Key>) -> Result<ReadGuard<'_, T>, LookUpError> {
-        let key = key.into();
-        self.cpu(key).read(key)
+        self.on(key, Cpu::read)
     }
 
     /// As [`Cpu::look_up`].
@@ -415,8 +386,7 @@ impl<T> TableThread<T> {
     /// As of that call.
     #[inline]
     pub fn look_up(&self, key: impl Into<Key>) -> Result<Entry, LookUpError> {
-        let key = key.into();
-        self.cpu(key).look_up(key)
+        self.on(key, Cpu::look_up)
     }
 
     /// As [`Table::attach`], on this thread's CPU.
@@ -425,8 +395,7 @@ impl<T> TableThread<T> {
     ///
     /// As of that call.
     pub fn attach(&self, key: impl Into<Key>, value: T) -> Result<Entry, Refused<AttachError, T>> {
-        let key = key.into();
-        self.cpu(key).attach(key, value).map_err(|refused| self.judged(refused))
+        self.on(key, |cpu, key| cpu.attach(key, value)).map_err(|refused| self.judged(refused))
     }
 
     /// As [`Table::replace`], on this thread's CPU.
@@ -439,12 +408,11 @@ impl<T> TableThread<T> {
         key: impl Into<Key>,
         value: T,
     ) -> Result<(Entry, Retired<T>), Refused<AttachError, T>> {
-        let key = key.into();
-        self.cpu(key).replace(key, value).map_err(|refused| self.judged(refused))
+        self.on(key, |cpu, key| cpu.replace(key, value)).map_err(|refused| self.judged(refused))
     }
 
     fn judged(&self, refused: Refused<AttachError, T>) -> Refused<AttachError, T> {
-        self.choice.judged(refused, self.cpus.iter().map(Cpu::shared))
+        judged(&self.choice, refused, self.cpus.iter().map(Cpu::shared))
     }
 
     /// As [`Table::detach`], on this thread's CPU.
@@ -453,8 +421,7 @@ impl<T> TableThread<T> {
     ///
     /// As of that call.
     pub fn detach(&self, key: impl Into<Key>) -> Result<Retired<T>, DetachError> {
-        let key = key.into();
-        self.cpu(key).detach(key)
+        self.on(key, Cpu::detach)
     }
 
     /// As [`Table::retire`], on this thread's CPU.
@@ -463,8 +430,7 @@ impl<T> TableThread<T> {
     ///
     /// As of that call.
     pub fn retire(&self, key: impl Into<Key>) -> Result<Vec<Freed<T>>, DetachError> {
-        let key = key.into();
-        self.cpu(key).retire(key)
+        self.on(key, Cpu::retire)
     }
 
     /// Makes this of each live entry, one registry after another, each in a section of its own. An
@@ -474,7 +440,6 @@ impl<T> TableThread<T> {
     /// # Errors
     ///
     /// `TooDeep`, `SectionsSpent`. Some entries may have been met then.
-    #[track_caller]
     pub fn for_each(&self, mut deed: impl FnMut(Found<'_, '_, T>)) -> Result<(), LookUpError> {
         for cpu in self.cpus.iter() {
             cpu.enter()?.entries().for_each(&mut deed);
@@ -502,38 +467,12 @@ impl<T> fmt::Debug for TableThread<T> {
 
 #[cfg(test)]
 mod tests {
-    use super::{Choice, Table};
+    use super::Table;
     use crate::{AttachError, Key, RegistryError};
-    use std::collections::hash_map::DefaultHasher;
-    use std::hash::Hasher;
 
-    /// As in kupaldiz_table.h.
     #[test]
-    fn a_table_has_two_slots_for_each_entry() {
-        for (entries, registries, slots, bits) in [
-            (1, 1, 1, 0),
-            (255, 1, 255, 0),
-            (256, 3, 171, 2),
-            (1100, 9, 245, 4),
-            (10_000, 79, 254, 7),
-        ] {
-            let choice = Choice::of(entries);
-            assert_eq!(
-                (choice.registries, choice.slots, choice.bits),
-                (registries, slots, bits),
-                "{entries}"
-            );
-        }
+    fn a_table_has_threads_and_entries() {
         assert!(Table::<()>::open(0, 10).is_err() && Table::<()>::open(1, 0).is_err());
-    }
-
-    /// The tests of kupaldiz_table.h rest on it: both choose by SipHash-1-3.
-    #[test]
-    fn the_standard_hasher_is_that_of_c() {
-        let mut hasher = DefaultHasher::new();
-        hasher.write_u64(0x0706_0504_0302_0100);
-        hasher.write_u64(0x0f0e_0d0c_0b0a_0908);
-        assert_eq!(hasher.finish(), 0x8972_1884_33a5_c5b7);
     }
 
     /// Names that choose one registry, which only the table itself knows.
@@ -542,7 +481,7 @@ mod tests {
         let table = Table::open(1, 1100).unwrap();
         let thread = table.thread().unwrap();
         let in_first = |id: &u64| table.choice.index(Key::from(*id)) == 0;
-        let ids: Vec<u64> = (0..).filter(in_first).take(246).collect();
+        let ids: Vec<u64> = (0..).filter(in_first).take(148).collect();
         let (last, first) = ids.split_last().unwrap();
         first.iter().for_each(|id| assert!(table.attach(*id, *id).is_ok()));
         let refused = table.attach(*last, 7).unwrap_err();
@@ -552,7 +491,7 @@ mod tests {
         assert_eq!(thread.replace(first[0], 7).unwrap_err().refusal, AttachError::Crowded);
         assert!(RegistryError::from(refused).to_string().contains("full"));
 
-        let others = (0..).filter(|id| !in_first(id)).take(1100 - 245);
+        let others = (0..).filter(|id| !in_first(id)).take(1100 - 147);
         others.for_each(|id| assert!(thread.attach(id, id).is_ok()));
         assert_eq!(table.attach(*last, 7).unwrap_err().refusal, AttachError::NoSlot);
         assert_eq!(table.retire(first[0]).unwrap().len(), 1);

@@ -32,9 +32,10 @@ fn what_is_left_is_dropped_at_the_closing() {
         thread::sleep(Duration::from_millis(5));
         drop((held, retired));
     });
+    drop(dropped_here());
     registry.close(patience()).unwrap();
     leaving.join().unwrap();
-    assert_eq!(drops.dropped(), 2);
+    assert_eq!((drops.dropped(), dropped_here()), (2, vec![0]), "on the closing thread");
 }
 
 /// Locks what its caller has locked.

@@ -32,6 +32,30 @@ fn names_are_told_apart_and_ordered_as_their_texts() {
     assert_eq!(("wm".parse(), "".parse::<Name>()), (Ok(WM), Err(NameError::Empty)));
 }
 
+/// No entry has it.
+#[test]
+fn what_is_no_name_is_no_key() {
+    let (_registry, cpus) = with_driver(7);
+    let cpu = &cpus[0];
+    cpu.attach("sixteen-bytes-16", 8).unwrap();
+    for text in ["", "\0", "sixteen-bytes-16+"] {
+        let refused = [cpu.attach(text, 9).map(drop), cpu.attach_iface("wm", text, 9).map(drop)];
+        assert!(refused
+            .iter()
+            .all(|one| one.as_ref().unwrap_err().refusal == AttachError::BadName));
+        assert_eq!(cpu.replace(text, 9).map(drop).unwrap_err().refusal, AttachError::BadName);
+        let found = [
+            cpu.get(text).map(drop),
+            cpu.get_local(text).map(drop),
+            cpu.read(text).map(drop),
+            cpu.look_up(text).map(drop),
+        ];
+        assert_eq!(found, [Err(LookUpError::NotFound); 4]);
+        assert_eq!(cpu.detach(text).map(drop), Err(DetachError::NotFound));
+        assert!(!cpu.enter().unwrap().contains(text));
+    }
+}
+
 #[test]
 fn bad_settings_are_refused() {
     let whole = Settings::new(LIMITS.cpus as u8, LIMITS.slots as u8);
@@ -107,7 +131,7 @@ fn an_entry_is_of_its_registry() {
         cpus[0].attach(WM, value).unwrap();
         (registry, cpus)
     });
-    let held = others[0].get(WM).unwrap();
+    let (_own, held) = (cpus[0].get(WM).unwrap(), others[0].get(WM).unwrap());
     let of_other = PassiveRef::entry(&held);
     assert!(of_other != cpus[0].look_up(WM).unwrap() && of_other == others[0].look_up(WM).unwrap());
     assert_eq!(

@@ -509,7 +509,8 @@ fn each_drop_may_panic() {
     let section = cpus[1].enter().unwrap();
     for (place, desk) in desks.iter().enumerate() {
         cpus[0].detach(name(&format!("d{place}"))).unwrap().defer();
-        *desk.lock().unwrap() = Some(Box::new(move || panic_any(place)));
+        let panics = move || if place == 2 { panic_any(place) } else { panic_any(PanicsAgain) };
+        *desk.lock().unwrap() = Some(Box::new(panics));
     }
     section.exit();
     let value = Acting { _tracked: drops.make(6), desk: Desk::default() };

@@ -194,6 +194,22 @@ fn a_call_finds_a_cpu_while_handles_come_and_go() {
     });
 }
 
+/// An interface that is deferred may be what holds its driver.
+#[test]
+fn a_drain_frees_meanwhile_what_is_deferred() {
+    let (registry, cpus) = with_driver(7);
+    cpus[0].attach_iface(WM, WM0, 8).unwrap();
+    let held = cpus[0].get_local((Kind::Iface, WM0)).unwrap();
+    cpus[0].detach((Kind::Iface, WM0)).unwrap().defer();
+    let leaving = thread::spawn(|| {
+        thread::sleep(Duration::from_millis(5));
+        drop(held);
+    });
+    let drained = registry.drain(patience()).unwrap();
+    assert_eq!((drained.freed.len(), drained.held.len()), (2, 0));
+    leaving.join().unwrap();
+}
+
 #[test]
 fn a_future_that_is_done_has_no_entry() {
     let (registry, cpus) = with_wm();

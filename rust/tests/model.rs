@@ -632,6 +632,13 @@ impl<'cpu> Bench<'cpu> {
         own.map(|cpu| Holder::Passive(cpu as u8)).or(holder).map(RegistryError::StillHeld)
     }
 
+    /// So in a section more are retired than most steps do.
+    fn change_many(&mut self) {
+        (0..self.names).for_each(|_| self.attach());
+        self.enter_or_exit();
+        (0..2 * self.names).for_each(|_| self.detach());
+    }
+
     fn free_deferred(&mut self) {
         let expected = self.collect();
         assert_eq!(numbers(&self.registry.free_deferred()), expected);
@@ -708,7 +715,8 @@ impl Bench<'_> {
             17 | 18 => self.work(),
             _ => match self.dice.below(8) {
                 0 => self.drain(),
-                1..=4 => self.free_deferred(),
+                1 => self.change_many(),
+                2..=4 => self.free_deferred(),
                 _ => self.audit(),
             },
         }

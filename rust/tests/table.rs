@@ -248,6 +248,23 @@ fn whoever_removes_learns_who_holds() {
     assert_eq!(table.look_up("wm"), Ok(entry));
 }
 
+/// More threads than handles take turns.
+#[test]
+fn threads_wait_for_handles() {
+    let (table, most) = (Table::open(2, 600).unwrap(), AtomicUsize::new(0));
+    (0..600).for_each(|id| assert!(table.attach(id, id).is_ok()));
+    let work = || {
+        let thread = table.thread_within(Patience::Forever).unwrap();
+        assert!(most.fetch_add(1, Ordering::SeqCst) < 2);
+        assert!((0..600).all(|id| *thread.get(id).unwrap() == id));
+        most.fetch_sub(1, Ordering::SeqCst);
+    };
+    thread::scope(|scope| (0..8).for_each(|_| drop(scope.spawn(work))));
+    let handles = [table.thread().unwrap(), table.thread().unwrap()];
+    assert!(table.thread_within(Patience::Turns(2)).is_none());
+    drop(handles);
+}
+
 /// An audit needs the handles of all threads.
 #[test]
 fn an_audit_counts_what_one_entry_has() {

@@ -11,7 +11,7 @@ test("C: together is built nine times" SETS_UP stresses LOCKS make PROCESSORS 2 
 
 group(c)
 programs(C: "" built out/ smallest walk packet "shared 2000" misuse allocs built turns deferred together interrupted reclaims lent replaces
-    table table_calls "table_model 5000" history "history 30000 1 largest" names recalls forwarder device_switch
+    table table_calls table_choice "table_model 5000" history "history 30000 1 largest" names recalls forwarder device_switch
     "speed 2 8 1000" "changes 20" "changes 20 2 4" "changes 20 64 255" checked)
 programs(C: " in the checking build" built out/checked-
     smallest walk packet "shared 500" "forwarder 200" "device_switch 20" "together 20")
@@ -24,7 +24,7 @@ group(watched c)
 programs(C: " under valgrind" built "${WATCHED};${ALL_LEAKS};out/" smallest walk packet "shared 20" misuse built interrupted reclaims lent
     "replaces 500" "history 1000 1 small" names "script examples/travelling-count.txt")
 programs(C: " with sanitizers" sanitized out/sanitized- smallest walk misuse packet "shared 500" built reclaims lent "replaces 5000"
-    "table 2000" table_calls "table_model 2000" "history 100000" names forwarder device_switch)
+    "table 2000" table_calls table_choice "table_model 2000" "history 100000" names forwarder device_switch)
 
 group(heap c)
 list(APPEND NEEDED stresses)

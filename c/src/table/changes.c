@@ -65,39 +65,35 @@ static enum kupaldiz_result judge_full(struct kupaldiz_cpu *cpu, const struct ch
 }
 
 /* Makes the change in its registry, where deferred entries are freed first. */
-static enum kupaldiz_result change_in(struct registry *registry, struct kupaldiz_cpu *cpu,
-    const struct change *change)
+static enum kupaldiz_result change_in(struct seat *seat, const struct change *change)
 {
+	struct registry *registry = seat->registry;
 	enum kupaldiz_result result;
 	take(registry);
 	free_deferred(registry);
 	if (change->replaces)
-		result = kupaldiz_replace(&registry->keeper, cpu, change->name, change->value,
-		    change->gone, change->made);
+		result = kupaldiz_replace(&registry->keeper, &seat->cpu, change->name,
+		    change->value, change->gone, change->made);
 	else
-		result = kupaldiz_attach(&registry->keeper, cpu, change->name, change->value,
-		    change->made);
+		result = kupaldiz_attach(&registry->keeper, &seat->cpu, change->name,
+		    change->value, change->made);
 	give(registry);
 	return result;
 }
 
-static enum kupaldiz_result make_change(const struct member *member, const struct change *change)
+static enum kupaldiz_result make_change(struct member *member, const struct change *change)
 {
 	struct table *table = member->table;
-	const size_t index = chosen(&member->choice, change->name);
+	struct seat *seat = seat_of_name(member, change->name);
 	if (!make_room(table))
-		return judge_full(&member->cpus[index], change);
-	enum kupaldiz_result result = change_in(&table->registries[index], &member->cpus[index],
-	    change);
+		return judge_full(&seat->cpu, change);
+	enum kupaldiz_result result = change_in(seat, change);
 	if (result != KUPALDIZ_DONE) {
 		note_gone(table);
 		return result == KUPALDIZ_NO_SLOT ? KUPALDIZ_CROWDED : result;
 	}
-	if (change->made != NULL)
-		widen(&member->choice, index, change->made);
-	if (change->replaces)
-		widen(&member->choice, index, change->gone);
-	return KUPALDIZ_DONE;
+	widened(seat, result, change->made);
+	return widened(seat, result, change->gone);
 }
 
 enum kupaldiz_result kupaldiz_table_attach(const struct kupaldiz_table_thread *thread,
@@ -118,18 +114,14 @@ enum kupaldiz_result kupaldiz_table_replace(const struct kupaldiz_table_thread *
 enum kupaldiz_result kupaldiz_table_detach(const struct kupaldiz_table_thread *thread,
     const struct kupaldiz_name *name, struct kupaldiz_entry *gone)
 {
-	const struct member *member = thread->at;
-	if (member == NULL)
+	if (thread->at == NULL)
 		return KUPALDIZ_EMPTY_HANDLE;
-	const size_t index = chosen(&member->choice, name);
-	struct registry *registry = &member->table->registries[index];
-	take(registry);
-	enum kupaldiz_result result = kupaldiz_detach(&registry->keeper, &member->cpus[index],
+	struct seat *seat = seat_of_name(thread->at, name);
+	take(seat->registry);
+	enum kupaldiz_result result = kupaldiz_detach(&seat->registry->keeper, &seat->cpu,
 	    KUPALDIZ_ENTRY, name, gone);
-	give(registry);
-	if (result == KUPALDIZ_DONE)
-		widen(&member->choice, index, gone);
-	return result;
+	give(seat->registry);
+	return widened(seat, result, gone);
 }
 
 /* ---- What is gone. ---- */
@@ -137,47 +129,49 @@ enum kupaldiz_result kupaldiz_table_detach(const struct kupaldiz_table_thread *t
 enum kupaldiz_result kupaldiz_table_destroy(const struct kupaldiz_table_thread *thread,
     uint64_t number, const struct timespec *deadline, struct kupaldiz_met *met)
 {
-	const struct member *member = thread->at;
 	struct kupaldiz_met last;
-	if (member == NULL)
+	if (thread->at == NULL)
 		return KUPALDIZ_EMPTY_HANDLE;
-	const size_t index = index_of(&member->choice, number);
-	if (index >= member->choice.registries)
+	struct seat *seat = seat_of_number(thread->at, number);
+	if (seat == NULL)
 		return KUPALDIZ_NOT_RETIRED;
-	enum kupaldiz_result result = kupaldiz_destroy_wait(
-	    &member->table->registries[index].interlock, &member->cpus[index],
-	    number >> member->choice.bits, deadline, &last);
+	enum kupaldiz_result result = kupaldiz_destroy_wait(&seat->registry->interlock, &seat->cpu,
+	    number - seat->number, deadline, &last);
 	if (result == KUPALDIZ_DONE) {
-		note_gone(member->table);
-		last.what += index * member->choice.slots;
+		note_gone(seat->registry->table);
+		last.what += seat->slot;
 	}
 	if (met != NULL && (result == KUPALDIZ_DONE || result == KUPALDIZ_STILL_HELD))
 		*met = last;
 	return result;
 }
 
-enum kupaldiz_result kupaldiz_table_defer(const struct kupaldiz_table_thread *thread,
-    const struct kupaldiz_entry *gone)
+/* Adds an entry, as its registry has it, to those that are freed later. */
+static enum kupaldiz_result defer_in(struct registry *registry, const struct kupaldiz_entry *gone)
 {
-	const struct member *member = thread->at;
-	if (member == NULL)
-		return KUPALDIZ_EMPTY_HANDLE;
-	if (gone == NULL)
-		return KUPALDIZ_NULL;
-	const size_t index = index_of(&member->choice, gone->number);
-	struct registry *registry = &member->table->registries[index];
-	struct kupaldiz_entry own = *gone;
-	if (index >= member->choice.registries)
-		return KUPALDIZ_NOT_RETIRED;
-	narrow(&member->choice, index, &own);
 	take(registry);
-	enum kupaldiz_result result = kupaldiz_deferred_add(&registry->deferred, &own);
+	enum kupaldiz_result result = kupaldiz_deferred_add(&registry->deferred, gone);
 	if (result == KUPALDIZ_DONE) {
-		atomic_fetch_add(&member->table->deferred, 1);
+		atomic_fetch_add(&registry->table->deferred, 1);
 		free_deferred(registry);
 	}
 	give(registry);
 	return result;
+}
+
+enum kupaldiz_result kupaldiz_table_defer(const struct kupaldiz_table_thread *thread,
+    const struct kupaldiz_entry *gone)
+{
+	if (thread->at == NULL)
+		return KUPALDIZ_EMPTY_HANDLE;
+	if (gone == NULL)
+		return KUPALDIZ_NULL;
+	const struct seat *seat = seat_of_number(thread->at, gone->number);
+	if (seat == NULL)
+		return KUPALDIZ_NOT_RETIRED;
+	struct kupaldiz_entry own = *gone;
+	narrow(seat, &own);
+	return defer_in(seat->registry, &own);
 }
 
 enum kupaldiz_result kupaldiz_table_barrier(const struct kupaldiz_table *handle,

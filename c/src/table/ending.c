@@ -21,15 +21,14 @@ enum kupaldiz_result kupaldiz_table_audit(const struct kupaldiz_table *handle, u
 		return KUPALDIZ_EMPTY_HANDLE;
 	if (balance == NULL)
 		return KUPALDIZ_NULL;
-	const struct choice *choice = &table->choice;
-	const size_t index = index_of(choice, number);
-	const size_t length = index < choice->registries ? audit_registry(table, index) : 0;
+	const struct seat *seat = seat_of_number(table->members, number);
+	const size_t length = seat != NULL ? audit_registry(table, index_of(number)) : 0;
 	for (size_t i = 0; i < length; i++) {
-		if (table->balances[i].number != number >> choice->bits)
+		if (table->balances[i].number != number - seat->number)
 			continue;
 		*balance = table->balances[i];
 		balance->number = number;
-		balance->slot += index * choice->slots;
+		balance->slot += seat->slot;
 		return KUPALDIZ_DONE;
 	}
 	return KUPALDIZ_NOT_FOUND;
@@ -40,7 +39,7 @@ static bool is_referred_to(const struct table *table, size_t index, uint64_t num
 {
 	bool held = false;
 	for (uint64_t i = 0; i < table->threads && !held; i++)
-		kupaldiz_held(&table->members[i].cpus[index], number, &held);
+		kupaldiz_held(&table->members[i].seats[index].cpu, number, &held);
 	return held;
 }
 

@@ -2,6 +2,7 @@
 #include "parts.h"
 
 #include <errno.h>
+#include <string.h>
 #include <sys/random.h>
 
 /* An entry of a registry is gone. The caller has the registry's lock. */
@@ -10,7 +11,7 @@ static void end_deferred(void *of, const struct kupaldiz_entry *gone)
 	const struct registry *registry = of;
 	struct table *table = registry->table;
 	struct kupaldiz_entry entry = *gone;
-	widen(&table->choice, (size_t)(registry - table->registries), &entry);
+	widen(&table->seats[registry - table->registries], &entry);
 	atomic_fetch_sub(&table->deferred, 1);
 	note_gone(table);
 	if (table->freed != NULL)
@@ -18,13 +19,15 @@ static void end_deferred(void *of, const struct kupaldiz_entry *gone)
 }
 
 /* Draws the secret. False if the system gives no random bytes. */
-static bool draw(uint64_t secret[2])
+static bool draw(struct secret *secret)
 {
 	ssize_t length;
 	do {
-		length = getrandom(secret, 2 * sizeof secret[0], 0);
+		length = getrandom(secret, sizeof *secret, 0);
 	} while (length < 0 && errno == EINTR);
-	return length == 2 * (ssize_t)sizeof secret[0];
+	secret->factors[0] |= 1;
+	secret->factors[1] |= 1;
+	return length == (ssize_t)sizeof *secret;
 }
 
 /* ---- Memory. ---- */
@@ -38,6 +41,23 @@ static struct member *make_members(uint64_t count)
 	return made;
 }
 
+/* Vacant places for so many memories, each on lines of the cache of its own. */
+static struct place *make_places(uint64_t memories, unsigned place_bits)
+{
+	const size_t bytes = memories * sizeof(struct place) << place_bits;
+	struct place *made = aligned_alloc(WAYS * sizeof *made, bytes);
+	if (made != NULL)
+		memset(made, 0xff, bytes);
+	return made;
+}
+
+static bool has_all_memory(const struct table *table)
+{
+	return table->places != NULL && table->registries != NULL && table->members != NULL &&
+	    table->rows != NULL && table->seats != NULL && table->row != NULL &&
+	    table->balances != NULL && table->lent != NULL;
+}
+
 /* A table with all its memory, and with nothing open; or NULL. */
 static struct table *make_table(const struct kupaldiz_table_settings *settings)
 {
@@ -48,16 +68,15 @@ static struct table *make_table(const struct kupaldiz_table_settings *settings)
 		return NULL;
 	*made = (struct table){.choice = choice, .threads = threads, .entries = settings->entries,
 	    .freed = settings->freed, .of = settings->of};
+	made->places = make_places(threads, place_bits_for(settings->entries));
 	made->registries = calloc(registries, sizeof *made->registries);
 	made->members = make_members(threads);
 	made->rows = calloc((registries + threads) * choice.slots, sizeof *made->rows);
-	made->cpus = calloc(threads * registries, sizeof *made->cpus);
+	made->seats = calloc(threads * registries, sizeof *made->seats);
 	made->row = calloc(threads, sizeof *made->row);
 	made->balances = calloc(choice.slots, sizeof *made->balances);
 	made->lent = calloc(threads, sizeof *made->lent);
-	if (made->registries != NULL && made->members != NULL && made->rows != NULL &&
-	    made->cpus != NULL && made->row != NULL && made->balances != NULL &&
-	    made->lent != NULL && draw(made->choice.secret))
+	if (has_all_memory(made) && draw(&made->choice.secret))
 		return made;
 	free_table(made);
 	return NULL;
@@ -69,10 +88,12 @@ static struct table *make_table(const struct kupaldiz_table_settings *settings)
 static void set_members(struct table *table)
 {
 	const struct choice *choice = &table->choice;
+	const unsigned place_bits = place_bits_for(table->entries);
 	struct kupaldiz_entry *rows = &table->rows[choice->registries * choice->slots];
 	for (uint64_t i = 0; i < table->threads; i++)
 		table->members[i] = (struct member){.choice = *choice, .table = table,
-		    .cpus = &table->cpus[i * choice->registries], .row = &rows[i * choice->slots]};
+		    .seats = &table->seats[i * choice->registries], .row = &rows[i * choice->slots],
+		    .memory = memory_of(table->places, place_bits, i)};
 }
 
 /* Opens a registry, and gives each member its CPU of it. */
@@ -92,7 +113,9 @@ static enum kupaldiz_result open_registry(struct table *table, size_t index)
 	    .entries = &table->rows[index * slots], .room = slots, .freed = end_deferred,
 	    .of = registry};
 	for (uint64_t i = 0; i < table->threads; i++) {
-		table->members[i].cpus[index] = table->row[i];
+		table->members[i].seats[index] = (struct seat){.cpu = table->row[i],
+		    .registry = registry, .number = index * KUPALDIZ_MOST_CHANGES,
+		    .slot = index * slots};
 		table->row[i] = (struct kupaldiz_cpu){0};
 	}
 	return KUPALDIZ_DONE;
@@ -110,7 +133,7 @@ static enum kupaldiz_result open_all(struct table *table)
 		opened += result == KUPALDIZ_DONE;
 	}
 	for (uint64_t i = 0; opened == registries && i < table->threads; i++)
-		table->lent[i] = table->members[i].cpus[0];
+		table->lent[i] = table->members[i].seats[0].cpu;
 	if (result == KUPALDIZ_DONE)
 		result = kupaldiz_pool_open(&table->pool, table->lent, table->threads);
 	if (result != KUPALDIZ_DONE)
@@ -121,7 +144,8 @@ static enum kupaldiz_result open_all(struct table *table)
 static bool are_fit(const struct kupaldiz_table_settings *settings)
 {
 	return settings->threads >= 1 && settings->threads <= KUPALDIZ_MOST_CPUS &&
-	    settings->entries >= 1 && settings->entries <= KUPALDIZ_TABLE_MOST_ENTRIES;
+	    settings->entries >= 1 && settings->entries <= KUPALDIZ_TABLE_MOST_ENTRIES &&
+	    choice_for(settings->entries).registries <= UINT64_C(1) << MOST_INDEX_BITS;
 }
 
 enum kupaldiz_result kupaldiz_table_open(const struct kupaldiz_table_settings *settings,

@@ -11,7 +11,8 @@ static inline void free_table(struct table *table)
 	free(table->registries);
 	free(table->members);
 	free(table->rows);
-	free(table->cpus);
+	free(table->seats);
+	free(table->places);
 	free(table->row);
 	free(table->balances);
 	free(table->lent);
@@ -22,7 +23,7 @@ static inline void free_table(struct table *table)
 static inline struct kupaldiz_cpu *row_of_cpus(const struct table *table, size_t index)
 {
 	for (uint64_t i = 0; i < table->threads; i++)
-		table->row[i] = table->members[i].cpus[index];
+		table->row[i] = table->members[i].seats[index].cpu;
 	return table->row;
 }
 

@@ -31,19 +31,19 @@ struct walk {
 static enum kupaldiz_result walk_registry(struct walk *walk, size_t index)
 {
 	const struct member *member = walk->member;
-	struct kupaldiz_cpu *cpu = &member->cpus[index];
+	struct seat *seat = &member->seats[index];
 	size_t count;
-	enum kupaldiz_result result = kupaldiz_enter(cpu);
+	enum kupaldiz_result result = kupaldiz_enter(&seat->cpu);
 	if (result != KUPALDIZ_DONE)
 		return result;
-	result = kupaldiz_walk(cpu, member->row, member->choice.slots, &count);
+	result = kupaldiz_walk(&seat->cpu, member->row, member->choice.slots, &count);
 	tell_found();
 	for (size_t i = 0; result == KUPALDIZ_DONE && i < count && walk->goes_on; i++) {
-		widen(&member->choice, index, &member->row[i]);
+		widen(seat, &member->row[i]);
 		walk->goes_on = walk->visit(walk->of, &member->row[i]);
 	}
 	tell_left();
-	kupaldiz_exit(cpu);
+	kupaldiz_exit(&seat->cpu);
 	return result;
 }
 
@@ -77,7 +77,7 @@ enum kupaldiz_result kupaldiz_table_perform(const struct kupaldiz_table_thread *
 	if (member->walks)
 		return KUPALDIZ_INSIDE;
 	for (size_t i = 0; i < member->choice.registries && result == KUPALDIZ_DONE; i++)
-		result = kupaldiz_perform_wait(&member->table->registries[i].interlock,
-		    &member->cpus[i], deadline, waited);
+		result = kupaldiz_perform_wait(&member->seats[i].registry->interlock,
+		    &member->seats[i].cpu, deadline, waited);
 	return result;
 }

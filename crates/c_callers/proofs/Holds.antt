@@ -1,17 +1,17 @@
 -- A CPU and a local reference stay of their registry over the calls of local references.
 use Rattle.std.proofs.Common.{◌≡◌, ◌∙◌, ⊎_elim, ◌⊎◌, inl, inr, ℕ, Option, Some, None, Result, Ok, Err, refl, sym, ap, subst, true, List, IfOk}
 use Rattle.std.proofs.lemmas.Option.{none-some, same_Some}
-use Rattle.c_calls.specs.Types.{Key, Kind, Name, NoMemory, Refusal}
+use Rattle.c_calls.specs.Types.{Key, NoMemory, Refusal}
 use Rattle.registry_values.specs.Common.{number_of_refusal}
 use Rattle.cpu_words.specs.Common.{Named}
 use Rattle.passive_list.specs.Common.{HasGivenUp, OnPlainCpu, OnPlainKeeper}
 use Rattle.c_handles.specs.Bodies.{IsReferenceOf, OnLocal, OnLocalBody}
 use Rattle.c_handles.specs.declared.values.plain.TheConstants.{DONE, NOT_COLLECTED}
 use Rattle.c_handles.specs.declared.values.plain.CEntry.{CEntry}
-use Rattle.c_handles.specs.values.Texts.{kind_given, kind_in}
+use Rattle.c_handles.specs.values.Texts.{kind_given}
 use Rattle.c_handles.specs.Heap.{IsLong}
 use Rattle.c_handles.specs.declared.handle.CpuHandle.{CpuHandle}
-use Rattle.c_calls.specs.Calls.{Asks, IsOfKeeper, Through, words_name}
+use Rattle.c_calls.specs.Calls.{DoesAsked, IsOfKeeper, Through, asked}
 use Rattle.c_calls.specs.LocalCalls.{AcquiresLocal, AcquiresLocalFor, AcquiresLocalGiven, AcquiresLocalInside, AreOfOneRow, IsSameLocal, IsUncollected, LocalGivesUp, ReleasesLocked, ThroughLocal, given_of}
 use Rattle.c_callers.specs.{IsCpuOf, IsLocalOf}
 
@@ -38,15 +38,14 @@ for_here w n key a b m l' (Some s) at of is = ⊎_elim
     (λ (made : AcquiresLocalInside n key a b m l'). inside_here w n key a b m l' of made)
     (is.inside (λ none. none-some s (sym none ∙ at)))
 
-asked_here : (w : Named) (e : CEntry) (a b : OnPlainCpu) (m : ℕ) (l' : Option OnLocal) (k : Option Kind) (name : Option Name) → kind_in (kind_given e) ≡ k → words_name e.name ≡ name → a.words ≡ w
-    → Asks (kind_given e) (Some e.name) m (IsSameLocal a b None l') (λ key. AcquiresLocalFor e.number key a b m None l') → AreHere w b l'
-asked_here w e a b m l' None name kind words of is = same_here w a b l' of (is.kind e.name refl kind).1
-asked_here w e a b m l' (Some k) None kind words of is = same_here w a b l' of (is.bad e.name k refl kind words).1
-asked_here w e a b m l' (Some k) (Some name) kind words of is = for_here w e.number _ a b m l' a.cpu.view.begin refl of (is.good e.name k name refl kind words)
+asked_here : (w : Named) (n : ℕ) (a b : OnPlainCpu) (m : ℕ) (l' : Option OnLocal) (r : Result Key ℕ) → a.words ≡ w
+    → DoesAsked r m (IsSameLocal a b None l') (λ key. AcquiresLocalFor n key a b m None l') → AreHere w b l'
+asked_here w n a b m l' (Err e) of is = same_here w a b l' of is.1
+asked_here w n a b m l' (Ok key) of is = for_here w n key a b m l' a.cpu.view.begin refl of is
 
 one_here : (w : Named) (given : Option CEntry) (a b : OnPlainCpu) (m : ℕ) (l' : Option OnLocal) → a.words ≡ w → AcquiresLocalGiven given a b m None l' → AreHere w b l'
 one_here w None a b m l' of is = same_here w a b l' of is.1
-one_here w (Some e) a b m l' of is = asked_here w e a b m l' (kind_in (kind_given e)) (words_name e.name) refl refl of is
+one_here w (Some e) a b m l' of is = asked_here w e.number a b m l' (asked (kind_given e) (Some e.name)) of is.does
 
 pub acquired_here : (w : Named) (c c' : Option OnPlainCpu) (given : Option CEntry) (l l' : Option OnLocal) (n : ℕ) → IsCpuOf w c → l ≡ None
     → Through c c' n (l' ≡ l) (λ a b. AcquiresLocal given a b n l l') → IsCpuOf w c' × IsLocalOf w l'

@@ -18,6 +18,7 @@ use c_calls::waits_law;
 use c_handles::values::wait::CWait;
 use c_handles::{CpuBody, KeeperBody};
 use name_registry::{attach_in, detach_in};
+use passive_list::{enter_on, exit_on};
 use registry_values::{Entry, MOST_CPUS, MOST_SLOTS, Record, Refusal, Settings};
 use std::alloc::Global;
 
@@ -113,8 +114,8 @@ pub fn turn(keeper: &mut KeeperBody, cpu: &mut CpuBody, wait: &mut CWait) -> Res
 
 /// The CPU leaves its section, or one nesting of it, if it is inside.
 pub(crate) fn leave(cpu: &mut CpuBody) {
-    if cpu.inside() {
-        cpu.exit();
+    if cpu.cpu.inside() {
+        exit_on(&cpu.words, &mut cpu.cpu);
     }
 }
 
@@ -187,7 +188,7 @@ pub fn leave_alone(
     let first = turn(keeper, cpu, &mut wait);
     change(keeper, cpu, rec)?;
     let other = wait_for(keeper, cpu, reader);
-    reader.enter()?;
+    enter_on(&reader.words, &mut reader.cpu)?;
     let last = turn(keeper, cpu, &mut wait);
     Ok((first, other.1, last))
 }
@@ -230,7 +231,8 @@ pub fn waited(
     ensures { IfOk result (λ made. made.1.1 ≡ Ok None → IsWaitedFor made.0.keeper.words (opened_cpu made.0.keeper.words 0) made.0.first) }
 {
     let mut all = opened(alloc)?;
-    all.second.enter()?;
+    let second = &mut all.second;
+    enter_on(&second.words, &mut second.cpu)?;
     let told = wait_for(&mut all.keeper, &mut all.first, &mut all.second);
     Ok((all, told))
 }

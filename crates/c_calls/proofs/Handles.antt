@@ -1,6 +1,7 @@
 -- Handles by their bodies: each has one or none; and lists of them.
 use Rattle.std.proofs.Common.{◌≡◌, Option, Some, None, sym, ◌∙◌, ◌≢◌, ℕ, zero, suc, ◌+◌, ◌-◌, ◌<◌, ◌≤◌, List, [], ◌∷◌, ◌++◌, length, get_or, set, take, drop, refl, ap, arith, length-append}
 use Rattle.std.proofs.lemmas.List.{get_or-map, map-set, get_or-set_other, get_or-set_same, get_or_past, length-map, length-take-le, map-append, take-append-drop, take_at, take-take}
+use Rattle.std.proofs.lemmas.Option.{none-some, same_Some}
 use Rattle.std.proofs.Math.Seq.{map-set_same}
 use mathlib.Core.Logic.{dite}
 use mathlib.Core.Option.{some}
@@ -9,32 +10,17 @@ use lib.ListN.{get_elem?}
 use Rattle.atomic_table.proofs.Lists.{at_last}
 use Rattle.std_alloc.specs.declared.boxed.Box.{Box}
 use Rattle.std_heap.specs.declared.Global.{Global}
-use Rattle.c_calls.specs.Types.{Name}
 use Rattle.passive_list.specs.Common.{OnPlainCpu}
 use Rattle.c_handles.specs.declared.handle.CpuHandle.{CpuHandle}
 use Rattle.c_calls.specs.Opening.{AreGiven, bodies_of, body_at, boxed}
 
 -- A handle has one body, or none.
 
-same_some : {A : Type 0} (x y : A) → ◌≡◌ {A = Option A} (Some x) (Some y) → x ≡ y
-same_some x y q = cc
-
 pub one_body : {A : Type 0} (o : Option A) (x y : A) → o ≡ Some x → o ≡ Some y → x ≡ y
-one_body o x y is too = same_some x y (sym is ∙ too)
-
-not_none : {A : Type 0} (x : A) → ◌≡◌ {A = Option A} (Some x) None → ⊥
-not_none x q = cc
+one_body o x y is too = same_Some x y (sym is ∙ too)
 
 pub no_body : {A : Type 0} (o : Option A) (x : A) → o ≡ Some x → o ≡ None → ⊥
-no_body o x is none = not_none x (sym is ∙ none)
-
--- A name that two words have is the only one.
-
-pub one_name : (o : Option Name) (m n : Name) → o ≡ Some m → o ≡ Some n → m ≡ n
-one_name o m n is too = one_body o m n is too
-
-pub no_name : (o : Option Name) (m : Name) → o ≡ Some m → o ≡ None → ⊥
-no_name o m is none = no_body o m is none
+no_body o x is none = none-some x (sym none ∙ is)
 
 -- Lists of handles, by their bodies.
 

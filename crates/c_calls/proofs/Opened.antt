@@ -35,7 +35,7 @@ all_left table z seats are = record { few = omega (arith, are.count); are = subs
 -- The last seat is that of the CPU whose number is how many are before it; and those are left.
 pub record LastTaken (table : TableId) (z : Settings) (seats : List (Seated CpuView)) (seat : Seated CpuView) : Type 0 where
   pub few : length seats < z.cpus
-  pub last : seat ≡ record { table = table; view = new_cpu z (length seats); log = []; known_log = []; noted_log = []; teller = None; list = [] }
+  pub last : seat ≡ record { table = table; view = new_cpu z (length seats); log = []; known_log = []; noted_log = []; teller = None; list = []; ends = [] }
   pub left : AreLeft table z seats
 
 pub take_last : (table : TableId) (z : Settings) (all seats : List (Seated CpuView)) (seat : Seated CpuView) → all ≡ seats ++ seat ∷ [] → AreLeft table z all → LastTaken table z seats seat

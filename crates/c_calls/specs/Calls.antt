@@ -57,13 +57,16 @@ abbrev pub asked : ℕ → Option CName → Result Key ℕ
 asked kind None = Err NULL
 asked kind (Some m) = key_or_bad (kind_in kind) (words_name m)
 
--- A call by a kind and a name of C's. What is wrong with them is the result, in this order, and nothing changes: `Same` says so of what the call
--- writes. Else P holds of the key.
+-- What a call does, by what its arguments ask for. If something is wrong with them, its number is
+-- the result, and nothing changes: `Same` says so of what the call writes. Else P holds of what they
+-- ask for.
+abbrev pub DoesAsked : {X : Type 0} → Result X ℕ → ℕ → Type 0 → (X → Type 0) → Type 0
+DoesAsked (Err e) n Same P = (n ≡ e) × Same
+DoesAsked (Ok x) n Same P = P x
+
+-- a call by a kind and a name of C's
 pub record Asks (word : ℕ) (name : Option CName) (n : ℕ) (Same : Type 0) (P : Key → Type 0) : Type 0 where
-  pub null : name ≡ None → (n ≡ NULL) × Same
-  pub kind : (m : CName) → name ≡ Some m → kind_in word ≡ None → (n ≡ BAD_KIND) × Same
-  pub bad : (m : CName) (k : Kind) → name ≡ Some m → kind_in word ≡ Some k → words_name m ≡ None → (n ≡ BAD_NAME) × Same
-  pub good : (m : CName) (k : Kind) (w : Name) → name ≡ Some m → kind_in word ≡ Some k → words_name m ≡ Some w → P (key_with k w)
+  pub does : DoesAsked (asked word name) n Same P
 
 -- what is written to a place of C's of an answer: nothing of a refusal
 abbrev pub Puts : {X Y : Type 0} → (X → Y) → Result X Refusal → Option Y → Option Y → Type 0

@@ -1,5 +1,5 @@
 -- What the changes of whoever holds the keeper return and leave: attaches, replacements and detaches.
-use Rattle.std.specs.Prelude.{◌≡◌, ◌⊎◌, ℕ, Option, Some, None, Result, Ok, Err, IfOk, IfErr, false}
+use Rattle.std.specs.Prelude.{◌≡◌, ℕ, Option, Some, None, Result, Ok, Err, IfOk, IfErr, false}
 use Rattle.c_calls.specs.Types.{Entry, Kind, Driver, Iface, Key, Name, Record, Refusal}
 use Rattle.passive_list.specs.Common.{OnPlainCpu, OnPlainKeeper}
 use Rattle.name_registry.specs.Common.{AttachesByName, HasAttachedFor, HasDetachedFor, HasReplacedFor, IsDetachAnswer, IsReplaceAnswer, KeepsWords, ReplacesByName, attach_answer}
@@ -8,7 +8,7 @@ use Rattle.c_handles.specs.declared.values.plain.CEntry.{CEntry}
 use Rattle.c_handles.specs.declared.values.plain.CName.{CName}
 use Rattle.c_handles.specs.values.Places.{put}
 use Rattle.c_handles.specs.values.Texts.{entry_out, number_of}
-use Rattle.c_calls.specs.Calls.{Asks, Puts, words_name}
+use Rattle.c_calls.specs.Calls.{Asks, DoesAsked, Puts, words_name}
 
 -- Arguments
 
@@ -17,13 +17,7 @@ abbrev pub beside : {X Y : Type 0} → Option X → Option Y → Option Y
 beside None given = None
 beside (Some x) given = given
 
--- A call by the names of a driver and of an interface. What is wrong with them is the result, in this order, and nothing changes; else P holds of them.
-pub record AsksBoth (driver name : Option CName) (n : ℕ) (Same : Type 0) (P : Name → Name → Type 0) : Type 0 where
-  pub null : (driver ≡ None) ⊎ (name ≡ None) → (n ≡ NULL) × Same
-  pub bad : (d m : CName) → driver ≡ Some d → name ≡ Some m → (words_name d ≡ None) ⊎ (words_name m ≡ None) → (n ≡ BAD_NAME) × Same
-  pub good : (d m : CName) (v w : Name) → driver ≡ Some d → name ≡ Some m → words_name d ≡ Some v → words_name m ≡ Some w → P v w
-
--- a pair of names, or the number of what is wrong with them
+-- the names of a driver and of an interface, or the number of what is wrong with them
 abbrev pub names_or_bad : Option Name → Option Name → Result (Name × Name) ℕ
 names_or_bad None w = Err BAD_NAME
 names_or_bad (Some v) None = Err BAD_NAME
@@ -33,6 +27,10 @@ abbrev pub asked_both : Option CName → Option CName → Result (Name × Name) 
 asked_both None name = Err NULL
 asked_both (Some d) None = Err NULL
 asked_both (Some d) (Some m) = names_or_bad (words_name d) (words_name m)
+
+-- a call by both names
+pub record AsksBoth (driver name : Option CName) (n : ℕ) (Same : Type 0) (P : Name → Name → Type 0) : Type 0 where
+  pub does : DoesAsked (asked_both driver name) n Same (λ names. P names.0 names.1)
 
 -- neither the keeper nor the CPU changes
 abbrev pub StayBoth : OnPlainKeeper → OnPlainCpu → OnPlainKeeper → OnPlainCpu → Type 0

@@ -195,7 +195,7 @@ fn is_cpu(cpu: &mut CpuHandle, id: u8) -> bool
 {
     match cpu.body_mut() {
         None => false,
-        Some(body) => body.id() == id,
+        Some(body) => body.cpu.id() == id,
     }
 }
 
@@ -316,6 +316,6 @@ fn local(keeper: &Keeper, cpu: &mut CpuHandle, t: u8, number: u64) -> i64
 {
     match cpu.body_mut() {
         None => unreachable!(),
-        Some(body) => local_on(keeper, body.plain(), t, number),
+        Some(body) => local_on(keeper, &body.cpu, t, number),
     }
 }

@@ -37,7 +37,7 @@ pub fn settings_of(keeper: &mut KeeperHandle, mut settings: SettingsPlace) -> Se
     let Some(body) = keeper.body_mut() else {
         return settings.answer(EMPTY_HANDLE);
     };
-    settings.put(settings_out(body.settings()));
+    settings.put(settings_out(body.keeper.settings()));
     settings.answer(DONE)
 }
 

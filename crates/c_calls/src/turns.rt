@@ -108,7 +108,7 @@ fn write_wait(keeper: &mut KeeperBody, cpu: &mut CpuBody, wait: &mut CWait)
     ensures { Begins keeper.old cpu.old keeper.new cpu.new wait.new }
 {
     let KeeperBody { words, keeper } = keeper;
-    wait.begun = u64::from(cpu.id()) + 1;
+    wait.begun = u64::from(cpu.cpu.id()) + 1;
     wait.seen = [false; MOST_CPUS];
     begin(
         words,
@@ -189,7 +189,7 @@ fn why_refused(wait: &CWait, cpu: &CpuBody) -> Option<u32>
 {
     if wait.begun == 0 {
         Some(NOT_BEGUN)
-    } else if wait.begun == u64::from(cpu.id()) + 1 {
+    } else if wait.begun == u64::from(cpu.cpu.id()) + 1 {
         if cpu.is_inside() {
             Some(refused(Refusal::Inside))
         } else {

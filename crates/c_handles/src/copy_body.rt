@@ -32,16 +32,3 @@ impl CopyBody {
         let _held = unsafe { ManuallyDrop::new_unchecked(self) };
     }
 }
-
-fn crosses<T: Send>(value: T) -> T
-    ensures { result ≡ value }
-{
-    value
-}
-
-/// The same body: that it may go to another thread is what counts.
-pub fn same_copy(body: CopyBody) -> CopyBody
-    ensures { result ≡ body }
-{
-    crosses(body)
-}

@@ -3,13 +3,12 @@
 ghost use Rattle.std.specs.Prelude.{◌≡◌, ◌≢◌, ◌↔◌, ◌++◌, IsTrue, None, is_some};
 ghost use Rattle.cpu_words.specs.Common.{AreWordsOf};
 ghost use mathlib.Core.List.{IsPrefix};
-ghost use Rattle.passive_list.specs.Common.{HasHeardOn, WasShown, has_heard, has_told, AnswersEnter, HasExitedOn};
+ghost use Rattle.passive_list.specs.Common.{HasHeardOn, WasShown, has_heard, has_told};
 
 use crate::heap::Spare;
 use crate::local_body::LocalBody;
 use cpu_words::{NoteSeat, Words};
-use passive_list::{PlainCpu, enter_on, exit_on, hear_on, tell_on};
-use registry_values::Refusal;
+use passive_list::{PlainCpu, hear_on, tell_on};
 use std::alloc::{AllocError, Global};
 use std::marker::Model;
 use std::sync::Arc;
@@ -50,20 +49,6 @@ impl CpuBody {
         }
     }
 
-    /// The CPU's number, from 0.
-    pub fn id(&self) -> u8
-        ensures { result ≡ self.now.cpu.view.id }
-    {
-        self.cpu.id()
-    }
-
-    /// The CPU itself.
-    pub fn plain(&self) -> &PlainCpu
-        ensures { result.now ≡ self.now }
-    {
-        &self.cpu
-    }
-
     /// A block for a local reference: the one that the CPU keeps, or a new one where it keeps none.
     pub fn take_room(&mut self, alloc: Global) -> Result<Vacant<LocalBody, Global>, AllocError>
         ensures { self.new ≡ self.old }
@@ -97,7 +82,7 @@ impl CpuBody {
     pub fn is_inside(&self) -> bool
         ensures { result ≡ is_some self.now.cpu.view.begin }
     {
-        self.inside()
+        self.cpu.inside()
     }
 
     /// Hears a note, and tells on what it knows then. Condition: the note is of its table.
@@ -113,35 +98,4 @@ impl CpuBody {
         hear_on(&self.words, &mut self.cpu, note);
         tell_on(&self.words, &mut self.cpu)
     }
-
-    /// Enters a section, or the open one once more.
-    /// Refused: `TooDeep`, `SectionsSpent`.
-    pub fn enter(&mut self) -> Result<(), Refusal>
-        ensures entered { AnswersEnter self.old.cpu self.new.cpu result }
-        ensures words { self.new.words ≡ self.old.words }
-    {
-        enter_on(&self.words, &mut self.cpu)
-    }
-
-    /// Exits the section, or one nesting of it. Condition: inside.
-    pub fn exit(&mut self)
-        requires inside { self.old.cpu.view.begin ≢ None }
-        ensures exited { HasExitedOn self.old.cpu self.new.cpu }
-        ensures words { self.new.words ≡ self.old.words }
-    {
-        exit_on(&self.words, &mut self.cpu);
-    }
-}
-
-fn crosses<T: Send>(value: T) -> T
-    ensures { result ≡ value }
-{
-    value
-}
-
-/// The same body: that it may go to another thread is what counts.
-pub fn same_cpu(body: CpuBody) -> CpuBody
-    ensures { result ≡ body }
-{
-    crosses(body)
 }

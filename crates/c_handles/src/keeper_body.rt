@@ -1,10 +1,7 @@
 //! The body of the keeper's handle.
 
-ghost use Rattle.std.specs.Prelude.{◌≡◌};
-
 use cpu_words::Words;
 use passive_list::Keeper;
-use registry_values::Settings;
 use std::alloc::Global;
 use std::marker::Model;
 use std::sync::Arc;
@@ -26,26 +23,4 @@ impl Model for KeeperBody {
     ghost view = { λ b. b.keeper };
 
     ghost invariant = { λ b. AreWordsOf b.words.value b.keeper.words.table b.keeper.words.settings };
-}
-
-impl KeeperBody {
-    /// What the registry was opened with.
-    pub fn settings(&self) -> Settings
-        ensures { result ≡ self.now.words.settings }
-    {
-        self.keeper.settings()
-    }
-}
-
-fn crosses<T: Send>(value: T) -> T
-    ensures { result ≡ value }
-{
-    value
-}
-
-/// The same body: that it may go to another thread is what counts.
-pub fn same_keeper(body: KeeperBody) -> KeeperBody
-    ensures { result ≡ body }
-{
-    crosses(body)
 }

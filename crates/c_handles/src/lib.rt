@@ -15,7 +15,7 @@ pub mod rows;
 pub mod taken;
 pub mod values;
 
-pub use copy_body::{CopyBody, same_copy};
-pub use cpu_body::{CpuBody, same_cpu};
-pub use keeper_body::{KeeperBody, same_keeper};
-pub use local_body::{LocalBody, same_local};
+pub use copy_body::CopyBody;
+pub use cpu_body::CpuBody;
+pub use keeper_body::KeeperBody;
+pub use local_body::LocalBody;

@@ -115,16 +115,3 @@ impl LocalBody {
         let _held = unsafe { ManuallyDrop::new_unchecked(self) };
     }
 }
-
-fn crosses<T: Send>(value: T) -> T
-    ensures { result ≡ value }
-{
-    value
-}
-
-/// The same body: that it may go to another thread is what counts.
-pub fn same_local(body: LocalBody) -> LocalBody
-    ensures { result ≡ body }
-{
-    crosses(body)
-}

@@ -1,7 +1,9 @@
 pub mod Balance
 pub mod Called
 pub mod Freed
+pub mod Held
 pub mod Fresh
 pub mod Linear
+pub mod Passing
 pub mod Safety
 pub mod Waiting

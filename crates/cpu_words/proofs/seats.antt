@@ -1,2 +1,3 @@
+pub mod Ending
 pub mod Notes
 pub mod Seating

@@ -1,5 +1,6 @@
 -- The definitions of this crate that proofs and the crates above cite, and for its own proofs its types, passed on from one place. Declares nothing.
 pub use Rattle.cpu_words.specs.declared.view.CpuView.{CpuView}
+pub use Rattle.cpu_words.specs.declared.view.EndedSeat.{EndedSeat}
 pub use Rattle.cpu_words.specs.declared.view.InHand.{InHand}
 pub use Rattle.cpu_words.specs.declared.view.InHand.TheVariants.{Back, Empty, Giving, Taking, Trying}
 pub use Rattle.cpu_words.specs.declared.view.KeeperView.{KeeperView}
@@ -11,6 +12,7 @@ pub use Rattle.cpu_words.specs.declared.view.View.{View}
 pub use Rattle.cpu_words.specs.declared.view.View.TheVariants.{Cpu, Keeper, Note, Reference, Spent}
 pub use Rattle.cpu_words.specs.Steps.{HasNone, ListGoesOn, is_border, is_hear, part, CpuMay, JoinsBy, JoinsOn, KeeperMay, KeeperStores, Makes, Moves, OneSeat, ReferenceMay, SeatMakes, SeatMay}
 pub use Rattle.cpu_words.specs.Steps.{SplitsBy, SplitsOn}
+pub use Rattle.cpu_words.specs.Held.{Finds, FreesNoneHeld, HasFoundInside, KeepsHeld, is_exit, passive_after, passive_from}
 pub use Rattle.cpu_words.specs.Headline.{HasOneSeat, IsBalanced, SeatsBalance, count_word, hand_to, held_by_seats, in_hand_to, total_word, DrainedIsFree, FoundIsHeld, HeldHaveSlots, IsInHand}
 pub use Rattle.cpu_words.specs.Headline.{MarkTells, MarksAreHonest, RunningHeadline, RunsAsLogged, RunsLawfully, SeatHolds, SectionMayHold}
 pub use Rattle.cpu_words.specs.Called.{CpuHearsLater, EndsOpenSections, HasLeft, HasLeftSince, HasToldSince, KeeperHearsLater}
@@ -19,6 +21,7 @@ pub use Rattle.cpu_words.specs.Seats.{AreOpening, AreSeats, MaySeat, cpu_seat, k
 pub use Rattle.cpu_words.specs.Draining.{CollectTold, HasAdded, HasCollected, HasKeptSub, HasLookedPassive, IsFoundCollected, KeptSubTold, LookedPassiveTold, MayCollect, MayJoinKeeper, MayKeptSub}
 pub use Rattle.cpu_words.specs.Draining.{MayPassiveLook, MayTotalAdd, MayTotalSub, TotalAddTold, TotalSubTold, keeper_after_join, row_of, with_given_up, HasLooked, HasSnapshot, LookTold, MayGlance}
 pub use Rattle.cpu_words.specs.Draining.{MayLook, MaySnapshot, due_next, keeper_after_look, IsDrained, MayVacate, MayWrite, VacateTold, keeper_after_vacate}
+pub use Rattle.cpu_words.specs.Freed.{EndedRunsForAll, EndsRunForAll, HaveClosed, IsWholeIn, cpu_end}
 pub use Rattle.cpu_words.specs.Freed.{EndedRuns, EndsRun, EndsRunFor, HasClosed, IsGoneFrom, LastView, FreedByKeeper, FreedIsGone, IsGone, AttachedKeeps, KeepsAsLong, KeepsDriver}
 pub use Rattle.cpu_words.specs.Fresh.{HeadsAreNewest, LookupsAreFresh, LookupsAreLinear, PassesAreWhole, RecallsAreLive, RefindsAreLive, WholeInTheList, has_sought, history_length, until_reply, with_reply}
 pub use Rattle.cpu_words.specs.KeeperLog.{AreCountsOf, AreMarksOf, AreSlotsOf, AreTotalsOf, FindsWord, HasHeardFrom, HasPassedOn, HasWaited, IsAttachedKeeping, IsDetachedFrom, IsFreedFrom, IsOwnLog}
@@ -34,7 +37,7 @@ pub use Rattle.cpu_words.specs.Locals.{MayCountDown, down_reply, reference_in, r
 pub use Rattle.cpu_words.specs.Logs.{AreBy, AreByOwn, AreToldBefore, HasComeIf, HasHeardAll, HasItsSections, IsSeatOf, IsStanding, IsToldBefore, IsTold, Knows, LoggedRuled, Maker, another, cuts_off}
 pub use Rattle.cpu_words.specs.Logs.{events_of, first_logged, fresh, gives_up, heard_by_cpu, heard_by_keeper, hears_note, joined_seat, keeps_for, known_log_of, leaves_hand, logged_after_split}
 pub use Rattle.cpu_words.specs.Logs.{logged_with_note, maker, maker_of_note, no_log, no_teller, seats_next, spent_seat, takes_in, teller_if, teller_of, tells_history, tells_pass, the_cpu, the_keeper}
-pub use Rattle.cpu_words.specs.Logs.{told_by_cpu, untold, who, whole_log, without_logs}
+pub use Rattle.cpu_words.specs.Logs.{AreStillThere, IsStillThere, end_of, ended_seat, logged_cpu, told_by_cpu, untold, who, whole_log, with_end, without_logs}
 pub use Rattle.cpu_words.specs.Waiting.{OrderedInTime, TwoMoments, HadHeard, HasEndedOn, HasEndedSince, HaveEnded, IsBeforeTelling, WaitingEnds}
 pub use Rattle.cpu_words.specs.Passives.{HasSubtracted, IsAloneAt, IsAt, IsWordOf, MayAdd, MayUse, tells_added, tells_passive, tells_subtracted, HasRecalled, HasRecalledHead, HasRefound, HasSeenMore}
 pub use Rattle.cpu_words.specs.Passives.{IsLiveNumber, IsRefound, MayRecall, MayRefind, RecalledTold, RefindTold, EndTold, HasConfirmed, HasTakenBack, HasTried, IsTrying, MayEndTry, MayTakeBack}
@@ -48,5 +51,5 @@ pub use Rattle.cpu_words.specs.Sections.{IsValueThere, search_for, search_with_p
 pub use Rattle.cpu_words.specs.Spots.{AreApart, FirstWordsFree, IsSpot, LinesApart, OnePlace, Spot, count_of, head_word, index, live_of, next_of, owner, passive_of, record_of, rows_from, section_of}
 pub use Rattle.cpu_words.specs.Spots.{stride_of, total_of, word_at, words_of}
 pub use Rattle.cpu_words.specs.Views.{CpuShown, LivesShow, GivesUp, HandFits, IsCollectedFor, KeeperShown, Named, ReferenceShown, SameHand, Seated, Shown, collected_net, collected_one, cpu_of}
-pub use Rattle.cpu_words.specs.Views.{cpu_view, depth_of, first_view, is_to, keeper_of, keeper_view, new_cpu, new_keeper, no_settings, note_of, number_at, one_more, reference_of, references_to}
+pub use Rattle.cpu_words.specs.Views.{cpu_view, depth_of, first_view, is_to, keeper_of, keeper_view, new_cpu, new_keeper, no_entry, no_settings, note_of, number_at, one_more, reference_of, references_to}
 pub use Rattle.cpu_words.specs.Views.{trying_in, with_number, without}

@@ -7,6 +7,7 @@ use Rattle.atomic_table.specs.Table.{State as Table}
 use Rattle.cpu_words.specs.Types.{Entry, Settings, Event}
 use Rattle.protocol.specs.Common.{IsAttached, EndsAt, State, opening, IsUnheld, picture, after, occupant_of, kept_at, empty_model, IsModelRun, HasConfirm, Holds, ObeysLaws}
 use Rattle.cpu_words.specs.declared.view.CpuView.{CpuView}
+use Rattle.cpu_words.specs.declared.view.EndedSeat.{EndedSeat}
 use Rattle.cpu_words.specs.declared.view.KeeperView.{KeeperView}
 use Rattle.cpu_words.specs.declared.view.Logged.{Logged}
 use Rattle.cpu_words.specs.declared.view.View.{View}
@@ -14,6 +15,7 @@ use Rattle.cpu_words.specs.declared.view.View.TheVariants.{Keeper, Cpu}
 use Rattle.cpu_words.specs.KeeperLog.{IsFreedFrom, IsAttachedKeeping}
 use Rattle.cpu_words.specs.Logs.{without_logs, LoggedRuled, AreByOwn, events_of}
 use Rattle.cpu_words.specs.Headline.{RunsAsLogged, SeatHolds}
+use Rattle.cpu_words.specs.Held.{FreesNoneHeld}
 use Rattle.cpu_words.specs.declared.view.LogItem.{LogItem}
 use Rattle.cpu_words.specs.Spots.{index, live_of}
 use Rattle.cpu_words.specs.Views.{CpuShown, KeeperShown}
@@ -127,3 +129,39 @@ pub record EndsRunFor (z : Settings) (x : CpuView) (log known_log : List LogItem
 -- so it is of every run that has ended
 abbrev pub EndedRuns : Type 0
 EndedRuns = (z : Settings) (x : CpuView) (log known_log : List LogItem) (last : List ℕ) → HasClosed z x log known_log last → EndsRunFor z x log known_log last
+
+-- A run that the keeper ended, with the seats that it took over
+
+-- a CPU's seat as it ended
+abbrev pub cpu_end : CpuView → List LogItem → List LogItem → EndedSeat
+cpu_end x log known_log = record { view = Cpu x; log = log; known_log = known_log }
+
+-- the words are those of a table under the rule, in which the keeper's seat has this view, did what its log says, and took over these seats
+pub record HaveClosed (z : Settings) (k : KeeperView) (log : List LogItem) (ends : List EndedSeat) (last : List ℕ) : Type 0 where
+  pub table : Table ℕ Logged
+  pub ruled : LoggedRuled z table
+  pub words : table.words ≡ last
+  pub place : ℕ
+  pub seat : Logged
+  pub at : get_elem? table.views place ≡ some seat
+  pub view : seat.view ≡ Keeper k
+  pub did : seat.log ≡ log
+  pub took : seat.ends ≡ ends
+
+-- a CPU's log is its whole part of the list, the last state has what its view has, and what it knew of the keeper's log and of the history begins these
+pub record IsWholeIn {z : Settings} {k : KeeperView} {log : List LogItem} {last : List ℕ} (run : EndsRun z k log last) (x : CpuView) (did known_log : List LogItem) : Type 0 where
+  pub own : part (run.seat x.id) run.acts ≡ did
+  pub shown : CpuShown (after (opening z) run.events) x
+  pub known : IsPrefix known_log log
+  pub seen : IsPrefix x.pass k.history
+
+-- one list for the keeper and for each CPU that it took over
+pub record EndsRunForAll (z : Settings) (k : KeeperView) (log : List LogItem) (ends : List EndedSeat) (last : List ℕ) : Type 0 where
+  pub run : EndsRun z k log last
+  pub each : (i : ℕ) (x : CpuView) (did known_log : List LogItem) → get_elem? ends i ≡ some (cpu_end x did known_log) → IsWholeIn run x did known_log
+  -- no entry was freed while a CPU held it
+  pub held : FreesNoneHeld run.seat (after (opening z) run.events).seated run.acts
+
+-- so it is of every run that has ended so
+abbrev pub EndedRunsForAll : Type 0
+EndedRunsForAll = (z : Settings) (k : KeeperView) (log : List LogItem) (ends : List EndedSeat) (last : List ℕ) → HaveClosed z k log ends last → EndsRunForAll z k log ends last

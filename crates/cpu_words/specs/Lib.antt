@@ -12,6 +12,7 @@ pub mod Draining
 pub mod Publishing
 pub mod Logs
 pub mod Headline
+pub mod Held
 pub mod Waiting
 pub mod Called
 pub mod Freed

@@ -1,5 +1,5 @@
 -- What each seat did, and what it has heard of the keeper's log: beside its view stands its log, and the rule says that this is the list's part by that seat.
-use Rattle.std.specs.Prelude.{true, ◌≡◌, ℕ, suc, ◌<◌, ◌≤◌, List, [], ◌∷◌, ◌++◌, map, length, Option, Some, None}
+use Rattle.std.specs.Prelude.{true, false, ◌≡◌, ℕ, suc, ◌<◌, ◌≤◌, List, [], ◌∷◌, ◌++◌, map, length, Option, Some, None}
 use mathlib.Core.Option.{some}
 use mathlib.Core.List.{IsPrefix}
 use lib.ListN.{get_elem?}
@@ -9,6 +9,7 @@ use Rattle.protocol.specs.declared.event.RecordOf.TheVariants.{Search as OfSearc
 use Rattle.cpu_words.specs.declared.view.InHand.{InHand}
 use Rattle.cpu_words.specs.declared.view.InHand.TheVariants.{Empty as NoEntry, Taking as TakingEntry, Giving as GivingEntry, Back as BackEntry, Trying as TryingEntry}
 use Rattle.cpu_words.specs.declared.view.CpuView.{CpuView}
+use Rattle.cpu_words.specs.declared.view.EndedSeat.{EndedSeat}
 use Rattle.cpu_words.specs.declared.view.KeeperView.{KeeperView}
 use Rattle.cpu_words.specs.declared.view.LogItem.{LogItem}
 use Rattle.cpu_words.specs.declared.view.Teller.{Teller}
@@ -16,7 +17,7 @@ use Rattle.cpu_words.specs.declared.view.Logged.{Logged}
 use Rattle.cpu_words.specs.declared.view.View.{View}
 use Rattle.cpu_words.specs.declared.view.View.TheVariants.{Keeper, Cpu, Reference, Note, Spent}
 use Rattle.cpu_words.specs.Steps.{part, is_border, is_hear, HasNone, ListGoesOn}
-use Rattle.cpu_words.specs.Views.{first_view, cpu_of, keeper_of, reference_of}
+use Rattle.cpu_words.specs.Views.{Seated, first_view, cpu_of, keeper_of, reference_of}
 use Rattle.cpu_words.specs.Rule.{did, log_item, log_of_events, Ruled}
 use Rattle.cpu_words.specs.KeeperLog.{KnownLogGrows, heard_from, IsOwnLog, IsShownAfter}
 
@@ -154,6 +155,24 @@ pub record HasItsSections (i : ℕ) (l : Logged) : Type 0 where
 abbrev pub HasHeardAll : ℕ → Logged → List (ℕ × LogItem) → Type 0
 HasHeardAll i l acts = (d : LogItem) (first rest : List (ℕ × LogItem)) → acts ≡ first ++ (i, d) ∷ rest → is_hear d.event ≡ true → IsPrefix (part 0 first) l.known_log
 
+-- Seats that have ended
+
+-- the seat as it is, for whoever takes it over
+abbrev pub end_of : Logged → EndedSeat
+end_of l = record { view = l.view; log = l.log; known_log = l.known_log }
+
+-- the seat has ended, and is still there as it was
+pub record IsStillThere (views : List Logged) (e : EndedSeat) : Type 0 where
+  pub place : ℕ
+  pub seat : Logged
+  pub at : get_elem? views place ≡ some seat
+  pub ended : seat.ended ≡ true
+  pub is : end_of seat ≡ e
+
+-- so is each of them
+abbrev pub AreStillThere : List Logged → List EndedSeat → Type 0
+AreStillThere views ends = (n : ℕ) (e : EndedSeat) → get_elem? ends n ≡ some e → IsStillThere views e
+
 -- the rule: the list's events are those of the seats' logs, each by its own seat; each log is its seat's part, and each known log is a prefix of the keeper's
 pub record LoggedRuled (z : Settings) (s : Table ℕ Logged) : Type 0 where
   pub run : Ruled z (without_logs s)
@@ -174,10 +193,12 @@ pub record LoggedRuled (z : Settings) (s : Table ℕ Logged) : Type 0 where
   pub sections : (i : ℕ) (l : Logged) → get_elem? s.views i ≡ some l → IsStanding l.view → HasItsSections i l
   -- what a CPU knows of the keeper's log is all that the keeper had done as that CPU heard last, or more
   pub heard : (i : ℕ) (l : Logged) → get_elem? s.views i ≡ some l → IsStanding l.view → HasHeardAll i l acts
+  -- what a seat took over is still there as it was
+  pub ends : (i : ℕ) (l : Logged) → get_elem? s.views i ≡ some l → AreStillThere s.views l.ends
 
 -- the keeper's seat, alone
 abbrev pub first_logged : Settings → Logged
-first_logged z = record { view = first_view z; log = []; known_log = []; noted_log = []; teller = None; list = [] }
+first_logged z = record { view = first_view z; log = []; known_log = []; noted_log = []; teller = None; list = []; ends = []; ended = false }
 
 -- What a step is told: the seat stays of its kind, takes no slots, its log goes on with just these events, its known log stays, and the tale holds
 
@@ -231,7 +252,7 @@ abbrev pub told_by_cpu : Logged → Option Teller
 told_by_cpu l = Some (teller_of (cpu_of l.view) l.log)
 
 abbrev pub fresh : (View → View) → (Logged → List LogItem) → (Logged → Option Teller) → Logged → Logged
-fresh right tells by l = record { view = right l.view; log = []; known_log = tells l; noted_log = []; teller = by l; list = [] }
+fresh right tells by l = record { view = right l.view; log = []; known_log = tells l; noted_log = []; teller = by l; list = []; ends = []; ended = false }
 
 abbrev pub joined_seat : (View → View → View) → (View → View → List LogItem) → Logged → Logged → Logged
 joined_seat both does l m = record l { view = both l.view m.view; log = l.log ++ does l.view m.view }
@@ -241,7 +262,19 @@ abbrev pub logged_with_note : (View → View → View) → Logged → Logged →
 logged_with_note both l m = record l { view = both l.view m.view; noted_log = m.known_log; teller = m.teller }
 
 abbrev pub spent_seat : Logged
-spent_seat = record { view = Spent; log = []; known_log = []; noted_log = []; teller = None; list = [] }
+spent_seat = record { view = Spent; log = []; known_log = []; noted_log = []; teller = None; list = []; ends = []; ended = false }
+
+-- a seat takes over another one, which has ended then and stays as it was
+
+abbrev pub with_end : Logged → Logged → Logged
+with_end l m = record l { ends = end_of m ∷ l.ends }
+
+abbrev pub ended_seat : Logged → Logged
+ended_seat m = record m { ended = true }
+
+-- all that stands beside a CPU's view, which hasn't ended
+abbrev pub logged_cpu : Seated CpuView → Logged
+logged_cpu s = record { view = Cpu s.view; log = s.log; known_log = s.known_log; noted_log = s.noted_log; teller = s.teller; list = s.list; ends = s.ends; ended = false }
 
 -- What a cut or a join does
 

@@ -45,7 +45,7 @@ pub record AreOpening (z : Settings) (words : List ℕ) : Type 0 where
 
 -- the seat that CPU n gets, which did nothing and heard nothing
 abbrev pub cpu_seat : TableId → Settings → ℕ → Seated CpuView
-cpu_seat table z n = record { table = table; view = new_cpu z n; log = []; known_log = []; noted_log = []; teller = None; list = [] }
+cpu_seat table z n = record { table = table; view = new_cpu z n; log = []; known_log = []; noted_log = []; teller = None; list = []; ends = [] }
 
 -- the seats of the first n CPUs, CPU 0 first
 pub record AreSeats (table : TableId) (z : Settings) (n : ℕ) (seats : List (Seated CpuView)) : Type 0 where

@@ -13,6 +13,7 @@ use Rattle.cpu_words.specs.declared.view.InHand.TheVariants.{Empty as NoEntry, T
 use Rattle.cpu_words.specs.declared.view.LogItem.{LogItem}
 use Rattle.cpu_words.specs.declared.view.Teller.{Teller}
 use Rattle.cpu_words.specs.declared.view.CpuView.{CpuView}
+use Rattle.cpu_words.specs.declared.view.EndedSeat.{EndedSeat}
 use Rattle.cpu_words.specs.declared.view.KeeperView.{KeeperView}
 use Rattle.cpu_words.specs.declared.view.ReferenceView.{ReferenceView}
 use Rattle.cpu_words.specs.declared.view.View.{View}
@@ -31,6 +32,8 @@ pub record Seated (X : Type 0) : Type 0 where
   pub teller : Option Teller
   -- the list of all events, as the seat's last step on a word left it
   pub list : List (ℕ × LogItem)
+  -- the seats that it took over as they ended
+  pub ends : List EndedSeat
 
 -- a table and what it was made for, to a contract
 pub record Named : Type 0 where

@@ -1,16 +1,17 @@
 //! The end of a table: no thread shares its words any more.
 
-ghost use Rattle.std.specs.Prelude.{◌≡◌, ◌<◌, slice_index};
-ghost use Rattle.cpu_words.specs.Freed.{HasClosed};
+ghost use Rattle.std.specs.Prelude.{◌≡◌, ◌<◌, ◌∷◌, slice_index};
+ghost use Rattle.cpu_words.specs.Freed.{HasClosed, HaveClosed, cpu_end};
 ghost use Rattle.cpu_words.specs.Spots.{live_of, index};
 
 use crate::law::Words;
 use crate::layout::live_place;
-use crate::seat::CpuSeat;
+use crate::operations::ended;
+use crate::seat::{CpuSeat, KeeperSeat};
 use atomic_table::Closed;
 use registry_values::Settings;
 use std::alloc::Global;
-use std::marker::Model;
+use std::marker::{Brand, Model};
 
 /// The words of a registry that has ended, as the last step of any seat left them. To a contract they are their list, and its settings.
 pub struct LastWords {
@@ -42,6 +43,29 @@ impl Words {
     {
         let Words { table, settings } = self;
         let CpuSeat { token, end: _ } = seat;
+        LastWords {
+            closed: table.close_with(token),
+            settings,
+        }
+    }
+
+    /// The keeper's seat takes over a CPU's, which ends: nobody steps with it any more. This is no event.
+    pub fn take_over(&self, keeper: &mut KeeperSeat, cpu: CpuSeat)
+        requires table { (keeper.old.table ≡ self.now.table) × (cpu.table ≡ self.now.table) }
+        ensures { keeper.new ≡ record keeper.old { ends = cpu_end cpu.view cpu.log cpu.known_log ∷ keeper.old.ends } }
+    {
+        ended::take_over::<Brand>(self, keeper, cpu);
+    }
+
+    /// Ends the table, by the keeper's seat with those that it took over. It is as `close`, and more: each of these has in the last words its
+    /// view and its log. What the laws say of all of them together is `ended_run`.
+    pub fn close_all(self, keeper: KeeperSeat) -> LastWords
+        requires table { keeper.table ≡ self.table }
+        ensures settings { result.settings ≡ self.settings }
+        ensures ended { HaveClosed self.settings keeper.view keeper.log keeper.ends result.words }
+    {
+        let Words { table, settings } = self;
+        let KeeperSeat { token, end: _ } = keeper;
         LastWords {
             closed: table.close_with(token),
             settings,

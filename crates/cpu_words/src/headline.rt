@@ -1,7 +1,7 @@
 //! The laws of the protocol, said of the running words: functions that do nothing, whose contracts are the laws.
 
 ghost use Rattle.cpu_words.specs.Headline.{DrainedIsFree, FoundIsHeld, HeldHaveSlots, MarksAreHonest, RunningHeadline, SeatsBalance};
-ghost use Rattle.cpu_words.specs.Freed.{EndedRuns, FreedByKeeper, FreedIsGone, AttachedKeeps};
+ghost use Rattle.cpu_words.specs.Freed.{EndedRuns, EndedRunsForAll, FreedByKeeper, FreedIsGone, AttachedKeeps};
 ghost use Rattle.cpu_words.specs.Called.{CpuHearsLater, EndsOpenSections, KeeperHearsLater};
 ghost use Rattle.cpu_words.specs.Waiting.{WaitingEnds, OrderedInTime};
 ghost use Rattle.cpu_words.specs.Fresh.{HeadsAreNewest, LookupsAreFresh, LookupsAreLinear, RecallsAreLive, RefindsAreLive, WholeInTheList};
@@ -45,7 +45,7 @@ pub fn running_headline()
 {}
 
 /// Theorem, no effect at run time: what holds of the words that `Words::close` returns, on any schedule. Its hypothesis, that they are under the
-/// rule (`HasClosed`), is what `close` ensures.
+/// rule (`HasClosed`, `HaveClosed`), is what `close` and `close_all` ensure.
 ///
 /// A list of events leads from the opening to the words. Each event was made, with its reply, by the seat at its place (`are`, `all`): the keeper's
 /// by the keeper's, and a CPU's by that CPU's (`seat`, `owners`).
@@ -58,9 +58,13 @@ pub fn running_headline()
 ///
 /// - `own`, `shown`: its log is its whole part of the list, and its view is of that state.
 /// - `known`, `seen`: what it knew of the keeper's log begins that log, and its pass the history.
-#[tactic(auto, using(crate::proofs::laws::Freed::ended_runs))]
+///
+/// Where the keeper ended the table (`Words::close_all`), this is so of each CPU that it took over, by one list (`all`). And no entry was
+/// freed while one of these held it by its log: in a section that had found it, or by a passive reference (`held`).
+#[tactic(auto, using(crate::proofs::laws::Freed::ended_runs, crate::proofs::laws::Freed::ended_runs_for_all))]
 pub fn ended_run()
     ensures ended { EndedRuns }
+    ensures all { EndedRunsForAll }
 {}
 
 /// Theorem, no effect at run time: what the keeper's marks say of all seats, in every state of the table that is under the rule.

@@ -22,4 +22,6 @@ pub use headline::{ended_run, honest_marks, running_headline};
 pub use law::{Domain, RegistryRule, Words};
 pub use layout::layout_law;
 pub use seat::{CpuSeat, KeeperSeat, NoteSeat, ReferenceSeat, Seat, SeatView};
-pub use view::{CpuView, InHand, KeeperView, LogItem, Logged, Looked, ReferenceView, Teller, View};
+pub use view::{
+    CpuView, EndedSeat, InHand, KeeperView, LogItem, Logged, Looked, ReferenceView, Teller, View,
+};

@@ -1,7 +1,7 @@
 //! The seats. Each step on the words is made with one: to a contract a seat is its table, its view, its log, which
 //! is what it did, and what it has heard of the keeper's log.
 
-ghost use Rattle.std.specs.Prelude.{◌≡◌, []};
+ghost use Rattle.std.specs.Prelude.{◌≡◌, [], false};
 ghost use Rattle.cpu_words.specs.Views.{Seated};
 
 use crate::view::{CpuView, KeeperView, Logged, ReferenceView};
@@ -106,7 +106,7 @@ pub type NoteSeat = Seat<LinkedList<Change>>;
 impl<V: SeatView> Model for Seat<V> {
     ghost Value = { Seated V };
 
-    ghost view = { λ s. record { table = s.token.table_id; view = V.of_view s.token.me.0.view; log = s.token.me.0.log; known_log = s.token.me.0.known_log; noted_log = s.token.me.0.noted_log; teller = s.token.me.0.teller; list = s.token.me.0.list } };
+    ghost view = { λ s. record { table = s.token.table_id; view = V.of_view s.token.me.0.view; log = s.token.me.0.log; known_log = s.token.me.0.known_log; noted_log = s.token.me.0.noted_log; teller = s.token.me.0.teller; list = s.token.me.0.list; ends = s.token.me.0.ends } };
 
-    ghost invariant = { λ s. s.token.me ≡ (record s.token.me.0 { view = V.as_view (V.of_view s.token.me.0.view) }, []) };
+    ghost invariant = { λ s. (s.token.me ≡ (record s.token.me.0 { view = V.as_view (V.of_view s.token.me.0.view) }, [])) × (s.token.me.0.ended ≡ false) };
 }

@@ -59,6 +59,20 @@ pub struct Logged {
     pub teller: Option<Teller>,
     /// The list of all events, as the seat's last step on a word left it: each item with the place among the seats of the one that made it.
     pub list: LinkedList<(u64, LogItem)>,
+    /// The seats that this one took over as they ended.
+    pub ends: LinkedList<EndedSeat>,
+    /// Whether the seat has ended: another has taken it over, and nobody steps with it any more.
+    pub ended: bool,
+}
+
+/// A seat as it ended, for whoever took it over.
+pub struct EndedSeat {
+    /// What it knew.
+    pub view: View,
+    /// All that it did.
+    pub log: LinkedList<LogItem>,
+    /// What it had heard of the keeper's log.
+    pub known_log: LinkedList<LogItem>,
 }
 
 /// What the keeper's seat knows: all that only the keeper writes, and what it has counted itself.

@@ -1,4 +1,5 @@
 pub mod Attached
+pub mod Closed
 pub mod Replaced
 pub mod Audits
 pub mod Destroyed

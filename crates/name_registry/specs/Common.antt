@@ -10,7 +10,7 @@ pub use Rattle.name_registry.specs.Auditing.{AreAlike, AreAllCpus, AreShown, Has
 pub use Rattle.name_registry.specs.Auditing.{IsTallied, KnowAll, KnowTheSame, Listed, Occupies, acquired_of, audited, audited_at, audited_below, each_at, each_below, is_collected, listed_at, local_by}
 pub use Rattle.name_registry.specs.Auditing.{local_in, local_met, local_of, locals_met, locals_of, net_met, net_of, net_unless, place_of, places_below, released_of, tallies_below, tallies_met, tally}
 pub use Rattle.name_registry.specs.Auditing.{tally_by, tally_in, tally_met, tally_of, total_in, Balanced, ExactAudit, FreeInterlock, counts_of}
-pub use Rattle.name_registry.specs.Opening.{ClosesRun, AreNewCpus, AreOpened, IsBlankOf, boxed, new_on, opened_cpu}
+pub use Rattle.name_registry.specs.Opening.{AreTaken, ClosesRun, ClosesRunOf, made_by, AreNewCpus, AreOpened, IsBlankOf, boxed, new_on, opened_cpu}
 pub use Rattle.name_registry.specs.Locking.{IsAttachRefusal, IsDestroyRefusal, IsDetachRefusedTo, IsReplaceRefusedTo, IsPerformRefusal, IsStageOf, MayAttach, HasLearned, HasSeenAttach, HasSeenDetach, HasSeenReplace, IsNote, KeepsWords}
 pub use Rattle.name_registry.specs.Locking.{hears_cpu, is_inside, keeper_after_hear, keeper_after_tell, tells_and_hears, tells_twice_and_hears, HasGivenUpFor, IsLetGo, IsLetGoAndHeard, KnowsGivenUp}
 pub use Rattle.name_registry.specs.Locking.{gives_up, is_available_row, is_live_row}

@@ -1,15 +1,16 @@
 -- A registry before it is named, its CPUs as it is opened, and its end.
-use Rattle.std.specs.Prelude.{◌≡◌, ℕ, ◌<◌, List, [], ◌++◌, length, map, IsTrue}
+use Rattle.std.specs.Prelude.{◌≡◌, ℕ, ◌<◌, ◌+◌, List, [], ◌∷◌, ◌++◌, length, map, IsTrue}
 use Rattle.std.specs.Global.{Box}
 use mathlib.Core.Option.{some}
 use lib.ListN.{get_elem?}
 use Rattle.atomic_table.specs.Seated.{TableId}
 use mathlib.Core.List.{IsPrefix}
-use Rattle.name_registry.specs.Types.{Settings, CpuView, KeeperView, LogItem}
+use Rattle.name_registry.specs.Types.{Settings, CpuView, EndedSeat, KeeperView, LogItem}
 use Rattle.registry_values.specs.Common.{are_fit}
 use Rattle.protocol.specs.Common.{opening, after}
-use Rattle.cpu_words.specs.Common.{Named, Seated, new_cpu, keeper_with, part, CpuShown, EndsRun, IsFreedFrom, IsGoneFrom}
+use Rattle.cpu_words.specs.Common.{Named, Seated, new_cpu, keeper_with, part, CpuShown, EndsRun, IsFreedFrom, IsGoneFrom, IsWholeIn, KeepsHeld, cpu_end}
 use Rattle.passive_list.specs.Common.{OnCpu, OnPlainCpu, no_memory}
+use Rattle.name_registry.specs.Changes.{weigh}
 use Rattle.name_registry.specs.Locking.{tells_and_hears}
 
 -- the CPU c of a new table: outside, with nothing found and nothing held, and nothing was made
@@ -67,3 +68,30 @@ pub record ClosesRun (z : Settings) (x : OnCpu) (last : List ℕ) : Type 0 where
   pub known : IsPrefix x.known_log log
   pub seen : IsPrefix x.view.pass keeper.history
   pub gone : (t n : ℕ) → IsFreedFrom t n x.known_log → IsGoneFrom z (after (opening z) run.events) last n
+
+-- The end of a registry with all its CPUs: what the last words are to whoever has them all.
+
+-- each of the CPUs is among the seats that were taken over
+abbrev pub AreTaken : List OnCpu → List EndedSeat → Type 0
+AreTaken xs ends = (c : ℕ) (x : OnCpu) → get_elem? xs c ≡ some x → (i : ℕ) × (get_elem? ends i ≡ some (cpu_end x.view x.log x.known_log))
+
+-- what the calls of these CPUs changed behind the interlock, together, as the ledger counts it
+abbrev pub made_by : List OnCpu → ℕ
+made_by [] = 0
+made_by (x ∷ xs) = x.made + made_by xs
+
+-- The run has all that the CPU did: its log is its whole part of the list. It has what the CPU's view has, and all that it knew; and what was freed by that is gone. No entry was freed while the CPU
+-- held it.
+pub record IsInRun {z : Settings} {keeper : KeeperView} {log : List LogItem} {last : List ℕ} (run : EndsRun z keeper log last) (x : OnCpu) : Type 0 where
+  pub whole : IsWholeIn run x.view x.log x.known_log
+  pub gone : (t n : ℕ) → IsFreedFrom t n x.known_log → IsGoneFrom z (after (opening z) run.events) last n
+  pub held : KeepsHeld (run.seat x.view.id) run.acts
+
+-- One list of events leads from the opening to these words, and has all that the keeper and each of these CPUs did. The ledger has so many parts, as many as the registry has CPUs.
+pub record ClosesRunOf (z : Settings) (parts : ℕ) (xs : List OnCpu) (last : List ℕ) : Type 0 where
+  pub keeper : KeeperView
+  pub log : List LogItem
+  pub run : EndsRun z keeper log last
+  pub each : (c : ℕ) (x : OnCpu) → get_elem? xs c ≡ some x → IsInRun run x
+  -- where these are all CPUs, the changes of the history are those that their calls made, and no more
+  pub made : 0 < parts → length xs ≡ parts → weigh keeper.history ≡ made_by xs

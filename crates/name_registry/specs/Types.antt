@@ -26,6 +26,7 @@ pub use Rattle.protocol.specs.declared.state.Due.{Due}
 pub use Rattle.protocol.specs.declared.state.Due.TheVariants.{Rest}
 pub use Rattle.cpu_words.specs.declared.view.CpuView.{CpuView}
 pub use Rattle.cpu_words.specs.declared.view.KeeperView.{KeeperView}
+pub use Rattle.cpu_words.specs.declared.view.EndedSeat.{EndedSeat}
 pub use Rattle.cpu_words.specs.declared.view.LogItem.{LogItem}
 pub use Rattle.cpu_words.specs.declared.view.ReferenceView.{ReferenceView}
 pub use Rattle.cpu_words.specs.declared.view.Teller.{Teller}

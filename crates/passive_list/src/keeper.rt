@@ -128,6 +128,21 @@ impl Keeper {
         }
     }
 
+    /// The seat alone, for whoever ends the table (`Words::close_all`).
+    pub fn into_seat(self) -> KeeperSeat
+        ensures table { result.table ≡ self.words.table }
+        ensures seat { (result.view ≡ self.keeper.view) × (result.log ≡ self.keeper.log) }
+    {
+        let Keeper {
+            seat,
+            settings: _,
+            changes: _,
+            rows: _,
+            marks: _,
+        } = self;
+        seat
+    }
+
     /// The state of a slot, from 0; past the table's slots nothing is.
     pub fn slot(&self, s: u8) -> SlotState
         ensures { result ≡ slot_at self.now.keeper.slots s }

@@ -107,7 +107,7 @@ impl PlainCpu {
         }
     }
 
-    /// The seat alone, for whoever ends the table (`Words::close`).
+    /// The seat alone, for whoever ends the table (`Words::close`, `Words::take_over`).
     pub fn into_seat(self) -> CpuSeat
         ensures table { result.table ≡ self.words.table }
         ensures seat { (result.view ≡ self.cpu.view) × (result.log ≡ self.cpu.log) × (result.known_log ≡ self.cpu.known_log) }

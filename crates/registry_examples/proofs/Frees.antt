@@ -97,7 +97,7 @@ once_more n a b c few grows more = omega (arith, few, frees_grow a b grows, more
 
 -- the driver besides
 pub freed_besides : (z : Settings) (last : List ℕ) (n : ℕ) (a b : List LogItem) → n ≤ frees_in a → frees_in a < frees_in b → HasFreed z last (frees_in b) → HasFreed z last (n + 1)
-freed_besides z last n a b few more is = record { cpu = is.cpu; run = is.run; times = let times = is.times in omega (arith, few, more, times) }
+freed_besides z last n a b few more is = record { parts = is.parts; cpus = is.cpus; all = is.all; run = is.run; times = let times = is.times in omega (arith, few, more, times) }
 
 pub some_freed : (z : Settings) (last : List ℕ) (n : ℕ) → HasFreed z last n → SomeFreed n
 some_freed z last n is = record { settings = z; last = last; freed = is }

@@ -2,7 +2,7 @@
 //! and plugs it in again. At the end the driver goes, and the registry is closed. What its last words say of the driver, and how often a
 //! slot was freed, is proved by what holds of every run that has ended.
 
-ghost use Rattle.std.specs.Prelude.{◌≡◌, ◌≢◌, ◌<◌, ◌≤◌, ◌+◌, IfOk, IsTrue, None, slice_index};
+ghost use Rattle.std.specs.Prelude.{◌≡◌, ◌≢◌, ◌<◌, ◌≤◌, ◌+◌, IfOk, IsTrue, None, length, slice_index};
 ghost use mathlib.Core.List.{IsPrefix};
 ghost use Rattle.std.specs.Thread.{IsSync};
 ghost use Rattle.cpu_words.specs.Common.{IsFreedFrom, index, live_of};
@@ -99,23 +99,25 @@ fn run_on<D: Domain + Send + Sync, R: Threads + Wait + Sync>(
     let Some(cpu) = cpus.pop() else {
         return Err(Failure::Wrong("a registry without CPUs"));
     };
-    let (sum, mut cpu) = run_bus(rt, &registry, cpu, cpus)?;
+    let (sum, mut cpu, carriers) = run_bus(rt, alloc, &registry, cpu, cpus)?;
     let driver = unload_driver(rt, &registry, &mut cpu)?;
-    Ok((sum, close(registry, cpu, driver)))
+    Ok((sum, close(registry, cpu, carriers, driver)?))
 }
 
-/// With the driver loaded, the loop itself. All threads have ended at the end. Returns the CPU too, which knows of each free.
+/// With the driver loaded, the loop itself. All threads have ended at the end. Returns all CPUs too: first the one that knows of each free.
 fn run_bus<D: Domain + Send + Sync, R: Threads + Wait + Sync>(
     rt: &R,
+    alloc: Global,
     registry: &Registry<D>,
     mut cpu: Cpu<D>,
     carriers: Vec<Cpu<D>>,
-) -> Result<(PacketSum, Cpu<D>), Failure>
+) -> Result<(PacketSum, Cpu<D>, Vec<Cpu<D>>), Failure>
     ensures freed { IfOk result (λ ran. ran.0.freed ≤ frees_in ran.1.known_log) }
+    ensures all { IfOk result (λ ran. length ran.2.items ≡ length carriers.items) }
 {
     let bus = Bus::new(registry)?;
     bus.load_driver(rt, &mut cpu)?;
-    carry_and_plug(rt, &bus, cpu, carriers)
+    carry_and_plug(rt, alloc, &bus, cpu, carriers)
 }
 
 /// Detaches the driver and destroys it. Returns its entry: it had that slot.
@@ -134,49 +136,72 @@ fn unload_driver<D: Domain, R: Wait>(
     Ok((slot, driver.number))
 }
 
-/// Ends the registry, and returns its last words. One list of events of all threads led to them, on any schedule. So the live word of the
-/// driver's slot isn't the driver's number, and a slot was freed at least as often as the CPU knows.
-fn close<D: Domain>(registry: Registry<D>, cpu: Cpu<D>, driver: (u8, u64)) -> LastWords
+/// Ends the registry with all its CPUs, and returns its last words. One list of events of all threads led to them, on any schedule: what each CPU
+/// did is in it. So the live word of the driver's slot isn't the driver's number, a slot was freed at least as often as the CPU knows, and none while
+/// any CPU held its entry.
+fn close<D: Domain>(
+    registry: Registry<D>,
+    cpu: Cpu<D>,
+    mut carriers: Vec<Cpu<D>>,
+    driver: (u8, u64),
+) -> Result<LastWords, Failure>
+    requires all { length carriers.items + 1 ≡ D.parts }
     requires slot { driver.0 < D.settings.slots }
     requires gone { IsFreedFrom driver.0 driver.1 cpu.known_log }
-    ensures gone { slice_index result.words (index result.settings (live_of driver.0)) ≢ driver.1 }
-    ensures ran { HasFreed result.settings result.words (frees_in cpu.known_log) }
+    ensures gone { IfOk result (λ last. slice_index last.words (index last.settings (live_of driver.0)) ≢ driver.1) }
+    ensures ran { IfOk result (λ last. HasFreed last.settings last.words (frees_in cpu.known_log)) }
 {
     // The contract alone speaks of the driver.
     let _driver = driver;
-    registry.close(cpu)
+    let Ok(()) = carriers.push(cpu) else {
+        return Err(Failure::Memory(AllocError));
+    };
+    Ok(registry.close_all(carriers))
 }
 
 /// All at once: this CPU plugs the interface in and out, and each of the others carries packets on a thread of its own.
 fn carry_and_plug<D: Domain + Send + Sync, R: Threads + Wait + Sync>(
     rt: &R,
+    alloc: Global,
     bus: &Bus<D>,
     cpu: Cpu<D>,
     carriers: Vec<Cpu<D>>,
-) -> Result<(PacketSum, Cpu<D>), Failure>
+) -> Result<(PacketSum, Cpu<D>, Vec<Cpu<D>>), Failure>
     ensures freed { IfOk result (λ ran. ran.0.freed ≤ frees_in ran.1.known_log) }
+    ensures all { IfOk result (λ ran. length ran.2.items ≡ length carriers.items) }
 {
-    let (plugged, tallies) = join(
+    let (plugged, carried) = join(
         rt,
         || bus.plug_all(rt, cpu),
         || map_vec(rt, carriers, &|carrier: Cpu<D>| bus.carry_all(carrier)),
     );
     let (freed, cpu) = plugged?;
+    let (counted, carriers) = all_counted(alloc, carried?)?;
     let sum = PacketSum {
         packets: u64::from(CARRIERS) * BATCHES * BATCH,
-        counted: all_counted(tallies?)?,
+        counted,
         freed,
     };
-    Ok((sum, cpu))
+    Ok((sum, cpu, carriers))
 }
 
-/// The packets that all carriers have counted.
-fn all_counted(tallies: Vec<Result<Tally, Failure>>) -> Result<u64, Failure> {
+/// The packets that all carriers have counted, and their CPUs.
+fn all_counted<D: Domain>(
+    alloc: Global,
+    carried: Vec<Result<(Tally, Cpu<D>), Failure>>,
+) -> Result<(u64, Vec<Cpu<D>>), Failure>
+    ensures all { IfOk result (λ all. length all.1.items ≡ length carried.items) }
+{
     let mut counted = 0u64;
-    for tally in tallies {
-        counted = counted.saturating_add(tally?.total());
+    let mut cpus = Vec::new(alloc);
+    for one in carried {
+        let (tally, cpu) = one?;
+        counted = counted.saturating_add(tally.total());
+        let Ok(()) = cpus.push(cpu) else {
+            return Err(Failure::Memory(AllocError));
+        };
     }
-    Ok(counted)
+    Ok((counted, cpus))
 }
 
 impl<'a, D: Domain> Bus<'a, D> {
@@ -190,14 +215,14 @@ impl<'a, D: Domain> Bus<'a, D> {
         })
     }
 
-    /// All batches of a CPU.
-    fn carry_all(&self, mut cpu: Cpu<D>) -> Result<Tally, Failure> {
+    /// All batches of a CPU, which comes back.
+    fn carry_all(&self, mut cpu: Cpu<D>) -> Result<(Tally, Cpu<D>), Failure> {
         let mut tally = Tally([0; 9]);
         for _ in 0..BATCHES {
             self.carry_batch(&mut cpu, &mut tally)?;
             self.carried.fetch_add(1, SeqCst);
         }
-        Ok(tally)
+        Ok((tally, cpu))
     }
 
     /// One batch: one section with thirty-two lookups in it. The last packet has to wait, so it takes a passive reference along.

@@ -123,11 +123,11 @@ leaves_quietly of c k split back = tt
 
 -- the same of a seat, whose view is a CPU's
 
-pub seat_splits : (z : Settings) (i : ℕ) (l : Logged) (x : CpuView) (e : Event) → l ≡ record l { view = Cpu (cpu_of l.view) } → cpu_of l.view ≡ x → maker e ≡ the_cpu x.id
+pub seat_splits : (z : Settings) (i : ℕ) (l : Logged) (x : CpuView) (e : Event) → l ≡ record l { view = Cpu (cpu_of l.view) } → l.ended ≡ false → cpu_of l.view ≡ x → maker e ≡ the_cpu x.id
     → leaves_hand x.id x.hand ≡ did e (Ref 0) → LeavesHand e x
     → Splits (LoggedRuled z) i l (logged_after_split with_empty_hand cuts_off l) (fresh reference_of_hand no_log no_teller l)
-seat_splits z i l x e is view own does leaves = seat_cut z i l (Cpu x) with_empty_hand reference_of_hand cuts_off no_log no_teller (did e (Ref 0))
-    (is ∙ ap (λ (u : CpuView). record l { view = Cpu u }) view) tt (own, tt)
+seat_splits z i l x e is going view own does leaves = seat_cut z i l (Cpu x) with_empty_hand reference_of_hand cuts_off no_log no_teller (did e (Ref 0))
+    (is ∙ ap (λ (u : CpuView). record l { view = Cpu u }) view) going tt (own, tt)
     (subst (HasNone is_border) does (leaves_quietly is_border x.id x.hand (λ c. refl) (λ c. refl))) (subst (HasNone is_hear) does (leaves_quietly is_hear x.id x.hand (λ c. refl) (λ c. refl))) does
     (tells_nothing (record l { view = Cpu x }) (did e (Ref 0))) (names_nobody (record l { view = Cpu x }) (did e (Ref 0)))
     (splits z i x e leaves)
@@ -216,11 +216,12 @@ ref_joins x c v id idle = subst (λ d. JoinsSo (JoinRef d) (Cpu x) (Reference v)
 
 -- the same of two seats, whose views are a CPU's and a reference's
 
-pub seat_joins : (z : Settings) (i o : ℕ) (l m : Logged) (x : CpuView) → l ≡ record l { view = Cpu (cpu_of l.view) } → cpu_of l.view ≡ x → m ≡ record m { view = Reference (reference_of m.view) }
+pub seat_joins : (z : Settings) (i o : ℕ) (l m : Logged) (x : CpuView) → l ≡ record l { view = Cpu (cpu_of l.view) } → l.ended ≡ false → cpu_of l.view ≡ x → m ≡ record m { view = Reference (reference_of m.view) }
+    → m.ended ≡ false
     → IsIdle x
     → Joins (LoggedRuled z) i l o m (joined_seat with_reference_in_hand takes_in l m) spent_seat
-seat_joins z i o l m x is view that idle = seat_join z i o l m (Cpu x) (Reference (reference_of m.view)) with_reference_in_hand takes_in (did (JoinRef x.id (reference_of m.view).entry.number) Done)
-    (is ∙ ap (λ (u : CpuView). record l { view = Cpu u }) view) that tt (refl, tt) (refl, tt) (refl, tt) refl (joins_on z i (Cpu x) o (Reference (reference_of m.view))
+seat_joins z i o l m x is going view that other idle = seat_join z i o l m (Cpu x) (Reference (reference_of m.view)) with_reference_in_hand takes_in (did (JoinRef x.id (reference_of m.view).entry.number) Done)
+    (is ∙ ap (λ (u : CpuView). record l { view = Cpu u }) view) that going other tt (refl, tt) (refl, tt) (refl, tt) refl (joins_on z i (Cpu x) o (Reference (reference_of m.view))
     (with_reference_in_hand (Cpu x) (Reference (reference_of m.view))) (JoinRef x.id) (ref_joins x x.id (reference_of m.view) refl idle) (refl, refl) (λ seat sits. sits))
 
 pub seat_joins_by : (v a : View) (x : CpuView) (c : ℕ) (u : View) (w : ReferenceView) → cpu_of v ≡ x → reference_of u ≡ w → a ≡ with_reference_in_hand v u → x.id ≡ c → IsIdle x

@@ -1,5 +1,5 @@
 -- Keep by the keeper's seat: a reference's seat is joined into it, for a vacant slot.
-use Rattle.std.proofs.Common.{◌≡◌, ⊎_elim, ℕ, ◌<◌, List, set, Option, Some, None, true, refl, sym, ap, ◌∙◌, subst, arith}
+use Rattle.std.proofs.Common.{◌≡◌, ⊎_elim, ℕ, ◌<◌, List, set, Option, Some, None, true, false, refl, sym, ap, ◌∙◌, subst, arith}
 use Rattle.std.proofs.lemmas.Bool.{lt-ltb}
 use Rattle.atomic_table.specs.Table.{Joins as TableJoins}
 use Rattle.cpu_words.specs.Types.{Entry, Driver, Settings, Keep, Done, Slot, Vacant, Live, Retired, LocalPlace, Free, Standing}
@@ -53,13 +53,13 @@ keep_joins k t v may g good had ref backs =
 
 -- the same of seats' views
 pub keeps_seats : (z : Settings) (i : ℕ) (x : Logged) (o : ℕ) (u : Logged) (named t : ℕ) (k : KeeperView) (v : ReferenceView) → named ≡ t → x ≡ record x { view = Keeper (keeper_of x.view) }
-    → keeper_of x.view ≡ k
-    → u ≡ record u { view = Reference (reference_of u.view) } → reference_of u.view ≡ v → MayKeep k t v
+    → x.ended ≡ false → keeper_of x.view ≡ k
+    → u ≡ record u { view = Reference (reference_of u.view) } → u.ended ≡ false → reference_of u.view ≡ v → MayKeep k t v
     → TableJoins (LoggedRuled z) i x o u (joined_seat (with_kept named) (keeps_for named) x u) spent_seat
-keeps_seats z i x o u named t k v is keeper k_is ref v_is may =
+keeps_seats z i x o u named t k v is keeper going k_is ref other v_is may =
     subst (λ (m : ℕ). TableJoins (LoggedRuled z) i x o u (joined_seat (with_kept m) (keeps_for m) x u) spent_seat) (sym is)
     (seat_join z i o x u (Keeper k) (Reference v) (with_kept t) (keeps_for t) (did (Keep t v.entry.number) Done) (keeper ∙ ap (λ (y : KeeperView). record x { view = Keeper y }) k_is)
-    (ref ∙ ap (λ (y : ReferenceView). record u { view = Reference y }) v_is) tt (refl, tt) (refl, tt) (refl, tt) refl
+    (ref ∙ ap (λ (y : ReferenceView). record u { view = Reference y }) v_is) going other tt (refl, tt) (refl, tt) (refl, tt) refl
     (joins_on z i (Keeper k) o (Reference v) (Keeper (keeper_after_keep k t v)) (Keep t) (keep_joins k t v may) (refl, refl) (λ seat sits. sits)))
 
 pub keep_by : (x u y : View) (named t : ℕ) (k : KeeperView) (v : ReferenceView) → named ≡ t → keeper_of x ≡ k → reference_of u ≡ v → y ≡ with_kept named x u → MayKeep k t v

@@ -246,11 +246,11 @@ keeper_joins k v may g good had ref backs =
     }
 
 -- the same of seats' views
-pub joins_keeper : (z : Settings) (i : ℕ) (x : Logged) (o : ℕ) (u : Logged) (k : KeeperView) (v : ReferenceView) → x ≡ record x { view = Keeper (keeper_of x.view) } → keeper_of x.view ≡ k
-    → u ≡ record u { view = Reference (reference_of u.view) } → reference_of u.view ≡ v → MayJoinKeeper k v → TableJoins (LoggedRuled z) i x o u (joined_seat with_given_up gives_up x u) spent_seat
-joins_keeper z i x o u k v keeper k_is ref v_is may =
+pub joins_keeper : (z : Settings) (i : ℕ) (x : Logged) (o : ℕ) (u : Logged) (k : KeeperView) (v : ReferenceView) → x ≡ record x { view = Keeper (keeper_of x.view) } → x.ended ≡ false
+    → keeper_of x.view ≡ k → u ≡ record u { view = Reference (reference_of u.view) } → u.ended ≡ false → reference_of u.view ≡ v → MayJoinKeeper k v → TableJoins (LoggedRuled z) i x o u (joined_seat with_given_up gives_up x u) spent_seat
+joins_keeper z i x o u k v keeper going k_is ref other v_is may =
     seat_join z i o x u (Keeper k) (Reference v) with_given_up gives_up (did (JoinKeeper v.entry.number) Done) (keeper ∙ ap (λ (y : KeeperView). record x { view = Keeper y }) k_is)
-    (ref ∙ ap (λ (y : ReferenceView). record u { view = Reference y }) v_is) tt (refl, tt) (refl, tt) (refl, tt) refl
+    (ref ∙ ap (λ (y : ReferenceView). record u { view = Reference y }) v_is) going other tt (refl, tt) (refl, tt) (refl, tt) refl
     (joins_on z i (Keeper k) o (Reference v) (Keeper (keeper_after_join k v)) JoinKeeper (keeper_joins k v may) (refl, refl) (λ seat sits. sits))
 
 pub join_keeper_by : (x u y : View) (k : KeeperView) (v : ReferenceView) → keeper_of x ≡ k → reference_of u ≡ v → y ≡ with_given_up x u → MayJoinKeeper k v

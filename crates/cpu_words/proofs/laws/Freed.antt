@@ -7,7 +7,7 @@ use lib.ListN.{get_elem?}
 use mathlib.Core.Option.{some}
 use Rattle.atomic_table.specs.Table.{State as Table}
 use Rattle.atomic_table.proofs.Lists.{at_map}
-use Rattle.cpu_words.specs.Types.{Entry, Change, Settings, Vacant, Retired, Event, Vacate, KeptSub, Reply, Live, Publish, Republish, Done}
+use Rattle.cpu_words.specs.Types.{Entry, Change, Settings, Vacant, Retired, Event, Reply, Live, Publish, Republish, Done}
 use Rattle.registry_values.specs.Common.{are_fit, slot_at}
 use Rattle.protocol.specs.Common.{IsAttached, EndsAt, State, opening, Outcome, step, state_after, Holds, Occupies, IsUnheld, number_in, picture, after, occupant_of, destroyed_slot, kept_at, is_honest, live_at, seen_at, IsPublishing, ended_by}
 use Rattle.protocol.proofs.Made.{Made, Vacates, SubsKept, made, Publishes, Republishes}
@@ -24,11 +24,12 @@ use Rattle.protocol.proofs.keeps.Linking.{within_live}
 use Rattle.protocol.proofs.Cells.{slot_here}
 use Rattle.protocol.proofs.keeps.CountKeeps.{live_tells}
 use Rattle.protocol.proofs.runs.Fresh.{honest_tells}
-use Rattle.cpu_words.specs.Common.{LogItem, Logged, View, Good, ShowsViews, IsDetachedFrom, IsFreedFrom, part, without_logs, AreByOwn, RunsAsLogged, IsGone, FreedIsGone, FreedByKeeper, Sits, IsStanding, KeeperView, Keeper, log_item, changes_in, keeping, KeepsDriver, AttachedKeeps, Agrees, EndedRuns, EndsRun, EndsRunFor, CpuShown, CpuView, Cpu, IsGoneFrom, KeeperShown, Shown, live_of, KeepsAsLong, IsAttachedKeeping, by_number}
-use Rattle.cpu_words.proofs.logs.Loads.{run_as_logged, is_whole, same_event, place, halve}
+use Rattle.cpu_words.specs.Common.{LogItem, Logged, View, Good, ShowsViews, IsDetachedFrom, IsFreedFrom, part, without_logs, AreByOwn, EndedSeat, LoggedRuled, EndsRunForAll, EndedRunsForAll, FreesNoneHeld, IsWholeIn, IsStillThere, cpu_end, end_of, RunsAsLogged, IsGone, FreedIsGone, FreedByKeeper, Sits, IsStanding, KeeperView, Keeper, log_item, changes_in, keeping, KeepsDriver, AttachedKeeps, Agrees, EndedRuns, EndsRun, EndsRunFor, CpuShown, CpuView, Cpu, IsGoneFrom, KeeperShown, Shown, live_of, KeepsAsLong, IsAttachedKeeping, by_number}
+use Rattle.cpu_words.proofs.logs.Loads.{run_as_logged, same_event, place, halve}
 use Rattle.cpu_words.proofs.shown.Seeing.{attached_prefix, prefix_both, taken_is_prefix}
 use Rattle.cpu_words.proofs.shown.Showing.{backed}
 use Rattle.cpu_words.proofs.laws.Safety.{running_headline, seat_has_slot}
+use Rattle.cpu_words.proofs.laws.Held.{frees_none_held, whole}
 use Rattle.cpu_words.proofs.laws.Waiting.{own_first}
 use Rattle.cpu_words.proofs.logs.Known.{Known, known_stays, known_first, keeps_on}
 use Rattle.cpu_words.proofs.logs.Runs.{part_append, Follows, follows_after, follows_holds, cut, walked}
@@ -43,11 +44,6 @@ empties : (s n : State) (e : Event) (r : Reply) (t : ℕ) → Made s e n r → d
 empties s _ _ _ t (Vacates u may) of = ap (λ (k : ℕ). set s.slots k Vacant) (same_Some u t of)
 empties s _ _ _ t (SubsKept u d v keeps at may) of = ap (λ (k : ℕ). set s.slots k Vacant) (same_Some u t of)
 empties s _ _ _ t _ of = absurd (none-some t of)
-
-whole : (f : Event) (t : ℕ) → destroyed_slot f ≡ Some t → is_whole f ≡ true
-whole (Vacate u) t of = refl
-whole (KeptSub u) t of = refl
-whole f t of = absurd (none-some t of)
 
 -- the entry's number is in no slot of n, which comes after m
 record Freed (m n : State) (t k : ℕ) : Type 0 where
@@ -276,13 +272,12 @@ gone_from z g k last s t n words shown gone = record {
 }
 
 -- by the keeper's own seat, which is the first
-ends_run : (z : Settings) (s : Table ℕ Logged) (r : RunsAsLogged z s) → EndsRun z r.run.shows.each.keeper.0 (part 0 r.acts) s.words
-ends_run z s r =
+ends_run : (z : Settings) (s : Table ℕ Logged) (r : RunsAsLogged z s) (k : KeeperView) → get_elem? (without_logs s).views 0 ≡ some (Keeper k) → EndsRun z k (part 0 r.acts) s.words
+ends_run z s r k at =
     let run = r.run in
     let g : State = after (opening z) run.events in
-    let k = run.shows.each.keeper in
     let log = part 0 r.acts in
-    let shown : KeeperShown g k.0 = (run.shows.fits 0 (Keeper k.0) k.1).1 in
+    let shown : KeeperShown g k = (run.shows.fits 0 (Keeper k) at).1 in
     record {
       events = run.events;
       acts = r.acts;
@@ -296,7 +291,7 @@ ends_run z s r =
       laws = run.laws;
       keeper = refl;
       shown = shown;
-      gone = λ t n freed. gone_from z g k.0 s.words (without_logs s) t n run.words shown (gone_by z s log t n r ([], append-nil log) freed);
+      gone = λ t n freed. gone_from z g k s.words (without_logs s) t n run.words shown (gone_by z s log t n r ([], append-nil log) freed);
     }
 
 -- what a CPU saw is in the keeper's history
@@ -318,7 +313,7 @@ ends_run_for z x s i l r at is =
     record {
       keeper = k.0;
       keeper_log = part 0 r.acts;
-      run = ends_run z s r;
+      run = ends_run z s r k.0 k.1;
       own = ap (λ (j : ℕ). part j r.acts) (sym sits) ∙ sym (r.logs i l at (subst IsStanding (sym is) tt));
       shown = shown;
       known = (r.known i l at).0;
@@ -330,3 +325,53 @@ ended_runs z x log known_log last end =
     let run = ends_run_for z x end.table end.place end.seat (running_headline z end.table end.ruled) end.at end.view in
     subst (λ (l : List ℕ). EndsRunFor z x log known_log l) end.words
     (subst (λ (d : List LogItem). EndsRunFor z x log d end.table.words) end.knows (subst (λ (d : List LogItem). EndsRunFor z x d end.seat.known_log end.table.words) end.did run))
+
+-- the same of a run that the keeper's seat ended, with the CPUs' seats that it took over
+
+-- a CPU's seat, by its place
+whole_in : (z : Settings) (s : Table ℕ Logged) (r : RunsAsLogged z s) (k : KeeperView) (first : get_elem? (without_logs s).views 0 ≡ some (Keeper k)) (i : ℕ) (l : Logged) (x : CpuView)
+    → get_elem? s.views i ≡ some l → l.view ≡ Cpu x → IsWholeIn (ends_run z s r k first) x l.log l.known_log
+unfolding ends_run
+whole_in z s r k first i l x at is =
+    let run = r.run in
+    let its = run.shows.fits i l.view (at_map (λ (d : Logged). d.view) s.views i l at) in
+    let shown : CpuShown (after (opening z) run.events) x = subst (Shown (after (opening z) run.events)) is its.1 in
+    let sits : i ≡ run.seat x.id = subst (Sits run.seat i) is its.0 in
+    record {
+      own = ap (λ (j : ℕ). part j r.acts) (sym sits) ∙ sym (r.logs i l at (subst IsStanding (sym is) tt));
+      shown = shown;
+      known = (r.known i l at).0;
+      seen = seen_by (after (opening z) run.events) x k shown (run.shows.fits 0 (Keeper k) first).1;
+    }
+
+whole_in_as : (z : Settings) (s : Table ℕ Logged) (r : RunsAsLogged z s) (k : KeeperView) (first : get_elem? (without_logs s).views 0 ≡ some (Keeper k)) (e : EndedSeat) (x : CpuView)
+    (did known_log : List LogItem) → IsStillThere s.views e → e ≡ cpu_end x did known_log → IsWholeIn (ends_run z s r k first) x did known_log
+whole_in_as z s r k first e x did known_log there is =
+    let same : end_of there.seat ≡ cpu_end x did known_log = there.is ∙ is in
+    let whole = whole_in z s r k first there.place there.seat x there.at (ap (λ (d : EndedSeat). d.view) same) in
+    subst (λ (p : List LogItem × List LogItem). IsWholeIn (ends_run z s r k first) x p.0 p.1) (λ n. (ap (λ (d : EndedSeat). d.log) same n, ap (λ (d : EndedSeat). d.known_log) same n)) whole
+
+-- its list frees no entry that a CPU holds
+held_in : (z : Settings) (s : Table ℕ Logged) (r : RunsAsLogged z s) (k : KeeperView) (first : get_elem? (without_logs s).views 0 ≡ some (Keeper k))
+    → FreesNoneHeld (ends_run z s r k first).seat (after (opening z) (ends_run z s r k first).events).seated (ends_run z s r k first).acts
+unfolding ends_run
+held_in z s r k first = frees_none_held z s r
+
+ends_for_all : (z : Settings) (s : Table ℕ Logged) (ruled : LoggedRuled z s) (k : KeeperView) (i : ℕ) (l : Logged) → get_elem? s.views i ≡ some l → l.view ≡ Keeper k → EndsRunForAll z k l.log l.ends s.words
+ends_for_all z s ruled k i l at is =
+    let r = running_headline z s ruled in
+    let seen : get_elem? (without_logs s).views i ≡ some (Keeper k) = at_map (λ (d : Logged). d.view) s.views i l at ∙ ap some is in
+    let zero_is : i ≡ 0 = (r.run.shows.fits i (Keeper k) seen).0 in
+    let first : get_elem? (without_logs s).views 0 ≡ some (Keeper k) = ap (get_elem? (without_logs s).views) (sym zero_is) ∙ seen in
+    let log : part 0 r.acts ≡ l.log = ap (λ (j : ℕ). part j r.acts) (sym zero_is) ∙ sym (r.logs i l at (subst IsStanding (sym is) tt)) in
+    subst (λ (d : List LogItem). EndsRunForAll z k d l.ends s.words) log (record {
+      run = ends_run z s r k first;
+      each = λ n x did known_log taken. whole_in_as z s r k first (cpu_end x did known_log) x did known_log (ruled.ends i l at n (cpu_end x did known_log) taken) refl;
+      held = held_in z s r k first;
+    })
+
+pub ended_runs_for_all : EndedRunsForAll
+ended_runs_for_all z k log ends last end =
+    let all = ends_for_all z end.table end.ruled k end.place end.seat end.at end.view in
+    subst (λ (l : List ℕ). EndsRunForAll z k log ends l) end.words
+    (subst (λ (p : List LogItem × List EndedSeat). EndsRunForAll z k p.0 p.1 end.table.words) (λ n. (end.did n, end.took n)) all)

@@ -1,21 +1,21 @@
 -- Steps, cuts and joins over the table with logs.
-use Rattle.std.proofs.Common.{◌≡◌, ◌≢◌, ◌⊎◌, inl, inr, ⊎_elim, ℕ, zero, suc, ◌<◌, ◌≤◌, List, [], ◌∷◌, ◌++◌, map, length, Option, None, set, length-set, length-append, refl, sym, ap, ◌∙◌, subst, arith, Some}
+use Rattle.std.proofs.Common.{◌≡◌, ◌≢◌, ◌⊎◌, inl, inr, ⊎_elim, ℕ, zero, suc, ◌<◌, ◌≤◌, List, [], ◌∷◌, ◌++◌, map, length, Option, None, set, length-set, length-append, true, false, refl, sym, ap, ◌∙◌, subst, arith, Some}
 use Rattle.std.proofs.lemmas.List.{map-set, append-nil, map-append}
 use Rattle.std.specs.Prelude.{slice_index}
-use mathlib.Core.Option.{some, some-ne-none}
+use mathlib.Core.Option.{some, some-ne-none, some-injective}
 use mathlib.Core.List.{IsPrefix}
 use lib.ListN.{get_elem?}
 use Rattle.atomic_table.specs.Table.{State as Table, Splits, Joins, keeps, stepped}
-use Rattle.atomic_table.proofs.Lists.{at_set, at_map}
+use Rattle.atomic_table.proofs.Lists.{at_set, at_map, at_longer, set_else}
 use Rattle.cpu_words.specs.Types.{Settings, Hear, Done}
 use Rattle.protocol.specs.Common.{State, opening, empty_run}
-use Rattle.cpu_words.specs.Common.{LogItem, Teller, Logged, View, Keeper, Cpu, Reference, Note, Spent, Shown, Sits, Ruled, GoesOn, did, log_of_events, Moves, SplitsOn, JoinsOn, without_logs, part, events_of, untold, IsStanding, Maker, the_keeper, the_cpu, another, maker, maker_of_note, who, AreBy, IsSeatOf, AreByOwn, Knows, HasComeIf, AreToldBefore, ListGoesOn, spent_seat, LoggedRuled, KnownLogGrows, heard_from, HasHeardAll, HasItsSections, HasNone, is_border, is_hear, CpuView, logged_after_split, fresh, teller_of, joined_seat, logged_with_note}
+use Rattle.cpu_words.specs.Common.{LogItem, Teller, Logged, EndedSeat, IsStillThere, AreStillThere, View, Keeper, Cpu, Reference, Note, Spent, Shown, Sits, Ruled, GoesOn, did, log_of_events, Moves, SplitsOn, JoinsOn, without_logs, part, events_of, untold, IsStanding, Maker, the_keeper, the_cpu, another, maker, maker_of_note, who, AreBy, IsSeatOf, AreByOwn, Knows, HasComeIf, AreToldBefore, ListGoesOn, spent_seat, LoggedRuled, KnownLogGrows, heard_from, HasHeardAll, HasItsSections, HasNone, is_border, is_hear, CpuView, logged_after_split, fresh, teller_of, joined_seat, logged_with_note}
 use Rattle.cpu_words.proofs.shown.Showing.{was_there, at_end}
 use Rattle.cpu_words.proofs.logs.Runs.{by_seat, part_append, part_own, part_other, events_of_seat}
 use Rattle.cpu_words.proofs.logs.Told.{HearsWith, deaf_with, hear_with, heard_own, heard_other, heard_none, sections_more, sections_whole, AreToldPast, come_more, come_seats, told_more, plain_of_end, plain_from, plain_past, heard_past}
 use Rattle.cpu_words.proofs.shown.Seeing.{prefix_on}
 
-at_within : (l : List Logged) (i : ℕ) (a : Logged) → get_elem? l i ≡ some a → i < length l
+pub at_within : (l : List Logged) (i : ℕ) (a : Logged) → get_elem? l i ≡ some a → i < length l
 at_within [] i a e = absurd (some-ne-none a (sym e))
 at_within (x ∷ xs) zero a e = omega arith
 at_within (x ∷ xs) (suc i) a e = let h = at_within xs i a e in omega arith
@@ -77,7 +77,7 @@ record FitsIn (seat : ℕ → ℕ) (n : ℕ) (acts : List (ℕ × LogItem)) (j :
   heard : IsStanding u.view → HasHeardAll j u acts
 
 -- one seat is written
-each_of_set : (P : ℕ → Logged → Type 0) (l : List Logged) (i : ℕ) (a : Logged) → P i a → ((j : ℕ) (u : Logged) → j ≢ i → get_elem? l j ≡ some u → P j u)
+pub each_of_set : (P : ℕ → Logged → Type 0) (l : List Logged) (i : ℕ) (a : Logged) → P i a → ((j : ℕ) (u : Logged) → j ≢ i → get_elem? l j ≡ some u → P j u)
     → (j : ℕ) (u : Logged) → get_elem? (set l i a) j ≡ some u → P j u
 each_of_set P l i a here others j u there = ⊎_elim
     (λ (x : (j ≡ i) × (a ≡ u)). subst (λ (y : ℕ × Logged). P y.0 y.1) (λ k. (sym x.0 k, x.1 k)) here)
@@ -152,8 +152,8 @@ went_plainly z s r id l ds t goes at stands by =
 -- the rule holds on where each seat fits
 ruled_on : (z : Settings) (s t : Table ℕ Logged) (r : LoggedRuled z s) (id : ℕ) (log its ds : List LogItem) (goes : GoesOn z (without_logs s) r.run ds (without_logs t))
     → (on : Went z s r id log its ds (without_logs t) goes) → ((j : ℕ) (u : Logged) → get_elem? t.views j ≡ some u → FitsIn goes.ruled.seat goes.ruled.g.seated on.acts j u)
-    → length s.views ≤ length t.views → LoggedRuled z t
-ruled_on z s t r id log its ds goes on each longer = record {
+    → length s.views ≤ length t.views → ((j : ℕ) (u : Logged) → get_elem? t.views j ≡ some u → AreStillThere t.views u.ends) → LoggedRuled z t
+ruled_on z s t r id log its ds goes on each longer ends = record {
   run = goes.ruled;
   acts = on.acts;
   are = on.are;
@@ -166,7 +166,46 @@ ruled_on z s t r id log its ds goes on each longer = record {
   lists = λ j u there. (each j u there).lists;
   sections = λ j u there. (each j u there).sections;
   heard = λ j u there. (each j u there).heard;
+  ends = ends;
 }
+
+-- Seats that have ended stay as they were, as one moves that hasn't
+
+still_set : (views : List Logged) (i : ℕ) (l m : Logged) (e : EndedSeat) → get_elem? views i ≡ some l → l.ended ≡ false → IsStillThere views e → IsStillThere (set views i m) e
+still_set views i l m e at going had = record {
+  place = had.place;
+  seat = had.seat;
+  at = set_else views i had.place m (λ same.
+      let is : l ≡ had.seat = some-injective l had.seat (sym at ∙ (ap (get_elem? views) (sym same) ∙ had.at)) in
+      let q : false ≡ true = sym going ∙ (ap (λ (x : Logged). x.ended) is ∙ had.ended) in cc) ∙ had.at;
+  ended = had.ended;
+  is = had.is;
+}
+
+-- what each seat of the list took over is still there
+abbrev AreAllThere : List Logged → Type 0
+AreAllThere views = (j : ℕ) (u : Logged) → get_elem? views j ≡ some u → AreStillThere views u.ends
+
+ends_set : (views : List Logged) (i : ℕ) (l m : Logged) → get_elem? views i ≡ some l → l.ended ≡ false → AreAllThere views → AreStillThere (set views i m) m.ends → AreAllThere (set views i m)
+ends_set views i l m at going had mine =
+    each_of_set (λ j u. AreStillThere (set views i m) u.ends) views i m mine (λ j u ne there n e is. still_set views i l m e at going (had j u there n e is))
+
+-- it took over no other by that
+ends_same : (views : List Logged) (i : ℕ) (l m : Logged) → get_elem? views i ≡ some l → l.ended ≡ false → AreAllThere views → m.ends ≡ l.ends → AreAllThere (set views i m)
+ends_same views i l m at going had same = ends_set views i l m at going had
+    (subst (λ (ends : List EndedSeat). AreStillThere (set views i m) ends) (sym same) (λ n e is. still_set views i l m e at going (had i l at n e is)))
+
+none_there : (views : List Logged) (ends : List EndedSeat) → ends ≡ [] → AreStillThere views ends
+none_there views ends none n e is = absurd (some-ne-none e (sym is ∙ ap (λ (l : List EndedSeat). get_elem? l n) none))
+
+still_longer : (views more : List Logged) (e : EndedSeat) → IsStillThere views e → IsStillThere (views ++ more) e
+still_longer views more e had = record { place = had.place; seat = had.seat; at = at_longer views more had.place had.seat had.at; ended = had.ended; is = had.is }
+
+ends_longer : (views : List Logged) (b : Logged) → b.ends ≡ [] → AreAllThere views → AreAllThere (views ++ b ∷ [])
+ends_longer views b none had j u there = ⊎_elim
+    (λ (was : get_elem? views j ≡ some u). λ n e is. still_longer views (b ∷ []) e (had j u was n e is))
+    (λ (x : (j ≡ length views) × (b ≡ u)). none_there (views ++ b ∷ []) u.ends (sym (ap (λ (l : Logged). l.ends) x.1) ∙ none))
+    (at_end views b u j there)
 
 -- A seat moves
 
@@ -190,11 +229,11 @@ list_goes_on z s r id l its at stands = record {
 
 -- the rule holds on, for any prefix of the keeper's log that the seat has heard then; where it heard now, that is all of it
 logged_goes : (z : Settings) (l : Logged) (i : ℕ) (n : ℕ) (its ds : List LogItem) (w : View) (s : Table ℕ Logged) (r : LoggedRuled z s) (id : ℕ) → get_elem? s.views id ≡ some l → IsStanding l.view
-    → AreBy (who l.view) its
+    → l.ended ≡ false → AreBy (who l.view) its
     → map untold its ≡ ds → AreToldPast r.run.seat r.run.g.seated r.acts (by_seat id its)
     → GoesOn z (without_logs s) r.run ds (stepped (without_logs s) i n id [] w keeps) → (d : List LogItem) → IsPrefix d (part 0 r.acts) → IsPrefix l.known_log d → HearsWith id r.acts its d
     → LoggedRuled z (stepped s i n id [] (moved_to l w its d (r.acts ++ by_seat id its)) keeps)
-logged_goes z l i n its ds w s r id at stands by events told goes_without_logs d known up hears =
+logged_goes z l i n its ds w s r id at stands going by events told goes_without_logs d known up hears =
     let q = without_logs s in
     let m : Logged = moved_to l w its d (r.acts ++ by_seat id its) in
     let t : Table ℕ Logged = stepped s i n id [] m keeps in
@@ -208,15 +247,15 @@ logged_goes z l i n its ds w s r id at stands by events told goes_without_logs d
       lists = ([], append-nil (r.acts ++ by_seat id its) ∙ sym on.longer);
       sections = λ _. sections_whole id m (own_part z s r id l its at stands);
       heard = λ _. on.own_heard l m at stands up hears;
-    }) on.stay) (omega (arith, length-set s.views id m))
+    }) on.stay) (omega (arith, length-set s.views id m)) (ends_same s.views id l m at going r.ends refl)
 
 goes_plainly : (z : Settings) (l : Logged) (i : ℕ) (n : ℕ) (ds : List LogItem) (w : View) (s : Table ℕ Logged) (r : LoggedRuled z s) (id : ℕ) → get_elem? s.views id ≡ some l → IsStanding l.view
-    → AreBy (who l.view) ds → HasNone is_hear ds
+    → l.ended ≡ false → AreBy (who l.view) ds → HasNone is_hear ds
     → GoesOn z (without_logs s) r.run ds (stepped (without_logs s) i n id [] w keeps)
     → LoggedRuled z (stepped s i n id [] (moved_to l w ds l.known_log (r.acts ++ by_seat id ds)) keeps)
-goes_plainly z l i n ds w s r id at stands by quiet goes =
+goes_plainly z l i n ds w s r id at stands going by quiet goes =
     let none = plain z (without_logs s) r.run ds (stepped (without_logs s) i n id [] w keeps) goes in
-    logged_goes z l i n ds ds w s r id at stands by none (plain_past r.run.seat r.run.g.seated id ds r.acts none) goes l.known_log (r.known id l at).0 ([], append-nil l.known_log)
+    logged_goes z l i n ds ds w s r id at stands going by none (plain_past r.run.seat r.run.g.seated id ds r.acts none) goes l.known_log (r.known id l at).0 ([], append-nil l.known_log)
     (deaf_with id r.acts ds l.known_log quiet)
 
 -- what Moves says, of the table with logs
@@ -225,14 +264,14 @@ LoggedMoves z l i f ds tells = (s : Table ℕ Logged) → LoggedRuled z s → (i
     → (w : View) × (all : List (ℕ × LogItem)) × LoggedRuled z (stepped s i (f (slice_index s.words i)) id [] (record l { view = w; log = l.log ++ ds (slice_index s.words i); list = all }) keeps)
     × tells (slice_index s.words i) w × ListGoesOn l.list (l.log ++ ds (slice_index s.words i)) all
 
-pub logged_moves : (z : Settings) (l : Logged) (i : ℕ) (f : ℕ → ℕ) (ds : ℕ → List LogItem) (tells : ℕ → View → Type 0) → IsStanding l.view → ((n : ℕ) → AreBy (who l.view) (ds n))
+pub logged_moves : (z : Settings) (l : Logged) (i : ℕ) (f : ℕ → ℕ) (ds : ℕ → List LogItem) (tells : ℕ → View → Type 0) → IsStanding l.view → l.ended ≡ false → ((n : ℕ) → AreBy (who l.view) (ds n))
     → ((n : ℕ) → HasNone is_hear (ds n)) → Moves z l.view i f ds tells → LoggedMoves z l i f ds tells
-logged_moves z l i f ds tells stands by quiet moves s r id at fits =
+logged_moves z l i f ds tells stands going by quiet moves s r id at fits =
     let word = slice_index s.words i in
     let done = moves (without_logs s) r.run id (at_map (λ (x : Logged). x.view) s.views id l at) fits in (
       done.0,
       r.acts ++ by_seat id (ds word),
-      goes_plainly z l i (f word) (ds word) done.0 s r id at stands (by word) (quiet word) done.1,
+      goes_plainly z l i (f word) (ds word) done.0 s r id at stands going (by word) (quiet word) done.1,
       done.2,
       list_goes_on z s r id l (ds word) at stands,
     )
@@ -244,15 +283,15 @@ LoggedHears z l i f by tells = (s : Table ℕ Logged) (r : LoggedRuled z s) (id 
     × LoggedRuled z (stepped s i (f (slice_index s.words i)) id [] (record l { view = w; log = l.log ++ heard_from by l.teller; known_log = d; list = all }) keeps)
     × tells (slice_index s.words i) w × KnownLogGrows l.known_log l.noted_log d × (d ≡ part 0 r.acts) × ListGoesOn l.list (l.log ++ heard_from by l.teller) all
 
-pub logged_hears : (z : Settings) (l : Logged) (i : ℕ) (f : ℕ → ℕ) (by : Option ℕ) (tells : ℕ → View → Type 0) → IsStanding l.view → maker_of_note by ≡ who l.view
+pub logged_hears : (z : Settings) (l : Logged) (i : ℕ) (f : ℕ → ℕ) (by : Option ℕ) (tells : ℕ → View → Type 0) → IsStanding l.view → l.ended ≡ false → maker_of_note by ≡ who l.view
     → Moves z l.view i f (λ _. did (Hear by) Done) tells → LoggedHears z l i f by tells
-logged_hears z l i f by tells stands own moves s r id at fits =
+logged_hears z l i f by tells stands going own moves s r id at fits =
     let done = moves (without_logs s) r.run id (at_map (λ (x : Logged). x.view) s.views id l at) fits in
     let all = part 0 r.acts in (
       done.0,
       all,
       r.acts ++ by_seat id (heard_from by l.teller),
-      logged_goes z l i (f (slice_index s.words i)) (heard_from by l.teller) (did (Hear by) Done) done.0 s r id at stands (own, tt) refl
+      logged_goes z l i (f (slice_index s.words i)) (heard_from by l.teller) (did (Hear by) Done) done.0 s r id at stands going (own, tt) refl
           (heard_past r.run.seat r.run.g.seated id by l.teller r.acts (r.tellers id l at)) done.1 all ([], append-nil all) (r.known id l at).0 (hear_with id r.acts by l.teller),
       done.2,
       r.known id l at,
@@ -261,13 +300,13 @@ logged_hears z l i f by tells stands own moves s r id at fits =
     )
 
 -- and of the keeper's, which knows its own log
-pub logged_heard : (z : Settings) (l : Logged) (i : ℕ) (f : ℕ → ℕ) (tells : ℕ → View → Type 0) → IsStanding l.view → the_keeper ≡ who l.view → Moves z l.view i f (λ _. did (Hear None) Done) tells
+pub logged_heard : (z : Settings) (l : Logged) (i : ℕ) (f : ℕ → ℕ) (tells : ℕ → View → Type 0) → IsStanding l.view → l.ended ≡ false → the_keeper ≡ who l.view → Moves z l.view i f (λ _. did (Hear None) Done) tells
     → LoggedMoves z l i f (λ _. heard_from None l.teller) tells
-logged_heard z l i f tells stands own moves s r id at fits =
+logged_heard z l i f tells stands going own moves s r id at fits =
     let done = moves (without_logs s) r.run id (at_map (λ (x : Logged). x.view) s.views id l at) fits in (
       done.0,
       r.acts ++ by_seat id (heard_from None l.teller),
-      logged_goes z l i (f (slice_index s.words i)) (heard_from None l.teller) (did (Hear None) Done) done.0 s r id at stands (own, tt) refl
+      logged_goes z l i (f (slice_index s.words i)) (heard_from None l.teller) (did (Hear None) Done) done.0 s r id at stands going (own, tt) refl
           (heard_past r.run.seat r.run.g.seated id None l.teller r.acts (r.tellers id l at)) done.1 l.known_log (r.known id l at).0 ([], append-nil l.known_log)
           (deaf_with id r.acts (heard_from None l.teller) l.known_log (refl, tt)),
       done.2,
@@ -276,14 +315,14 @@ logged_heard z l i f tells stands own moves s r id at fits =
 
 -- A seat is cut in two, or takes in another
 
-pub logged_splits : (z : Settings) (i : ℕ) (l : Logged) (left right : View) (ds known_log : List LogItem) (teller : Option Teller) → IsStanding l.view → AreBy (who l.view) ds → HasNone is_border ds → HasNone is_hear ds
-    → MayTell l ds known_log → MayName l ds teller → SplitsOn z i l.view left right ds
-    → Splits (LoggedRuled z) i l (record l { view = left; log = l.log ++ ds }) (record { view = right; log = []; known_log = known_log; noted_log = []; teller = teller; list = [] })
-logged_splits z i v left right ds known_log teller stands by apart quiet may named splits s r at =
+pub logged_splits : (z : Settings) (i : ℕ) (l : Logged) (left right : View) (ds known_log : List LogItem) (teller : Option Teller) → IsStanding l.view → l.ended ≡ false → AreBy (who l.view) ds → HasNone is_border ds
+    → HasNone is_hear ds → MayTell l ds known_log → MayName l ds teller → SplitsOn z i l.view left right ds
+    → Splits (LoggedRuled z) i l (record l { view = left; log = l.log ++ ds }) (record { view = right; log = []; known_log = known_log; noted_log = []; teller = teller; list = []; ends = []; ended = false })
+logged_splits z i v left right ds known_log teller stands going by apart quiet may named splits s r at =
     let q = without_logs s in
     let here : get_elem? q.views i ≡ some v.view = at_map (λ (l : Logged). l.view) s.views i v at in
     let l : Logged = record v { view = left; log = v.log ++ ds } in
-    let b : Logged = record { view = right; log = []; known_log = known_log; noted_log = []; teller = teller; list = [] } in
+    let b : Logged = record { view = right; log = []; known_log = known_log; noted_log = []; teller = teller; list = []; ends = []; ended = false } in
     let t : Table ℕ Logged = record { words = s.words; homes = s.homes; views = set s.views i l ++ b ∷ [] } in
     let views : set q.views i left ++ right ∷ [] ≡ (without_logs t).views =
     sym (map-append (λ (x : Logged). x.view) (set s.views i l) (b ∷ []) ∙ ap (λ (a : List View). a ++ right ∷ []) (map-set (λ (x : Logged). x.view) s.views i l)) in
@@ -315,15 +354,16 @@ logged_splits z i v left right ds known_log teller stands by apart quiet may nam
     (λ (x : (j ≡ length (set s.views i l)) × (b ≡ u)). subst (fits j) x.1 (new j x.0))
     (at_end (set s.views i l) b u j there))
     (omega (arith, length-append (set s.views i l) (b ∷ []), size))
+    (ends_longer (set s.views i l) b refl (ends_same s.views i v l at going r.ends refl))
 
 -- what lies beside the view after is what lay there, or what the other has heard and who told it
 abbrev pub LiesBeside : Logged → Logged → List LogItem → Option Teller → Type 0
 LiesBeside l m noted_log teller = ((noted_log ≡ l.noted_log) × (teller ≡ l.teller)) ⊎ ((noted_log ≡ m.known_log) × (teller ≡ m.teller))
 
-pub logged_joins : (z : Settings) (i : ℕ) (l : Logged) (o : ℕ) (m : Logged) (both : View) (ds noted_log : List LogItem) (teller : Option Teller) → IsStanding l.view → AreBy (who l.view) ds
-    → HasNone is_border ds → HasNone is_hear ds → LiesBeside l m noted_log teller → JoinsOn z i l.view o m.view both Spent ds
+pub logged_joins : (z : Settings) (i : ℕ) (l : Logged) (o : ℕ) (m : Logged) (both : View) (ds noted_log : List LogItem) (teller : Option Teller) → IsStanding l.view → l.ended ≡ false → m.ended ≡ false
+    → AreBy (who l.view) ds → HasNone is_border ds → HasNone is_hear ds → LiesBeside l m noted_log teller → JoinsOn z i l.view o m.view both Spent ds
     → Joins (LoggedRuled z) i l o m (record l { view = both; log = l.log ++ ds; noted_log = noted_log; teller = teller }) spent_seat
-logged_joins z i v o w both ds noted_log teller stands by borders quiet lies joins s r at apart there =
+logged_joins z i v o w both ds noted_log teller stands going other by borders quiet lies joins s r at apart there =
     let q = without_logs s in
     let f = λ (x : Logged). x.view in
     let here : get_elem? q.views i ≡ some v.view = at_map f s.views i v at in
@@ -364,14 +404,16 @@ logged_joins z i v o w both ds noted_log teller stands by borders quiet lies joi
     } in
     ruled_on z s t r i v.log ds ds goes on (each_of_set fits (set s.views i l) o b spent (λ j u _ there. each_of_set fits s.views i l own on.stay j u there))
     (omega (arith, length-set (set s.views i l) o b, length-set s.views i l))
+    (ends_set (set s.views i l) o w b there other (ends_same s.views i v l at going r.ends refl) (none_there (set (set s.views i l) o b) b.ends refl))
 
 -- nothing is done: the log stays
-pub logged_joins_same : (z : Settings) (i : ℕ) (l : Logged) (o : ℕ) (m : Logged) (both : View) (noted_log : List LogItem) (teller : Option Teller) → IsStanding l.view → LiesBeside l m noted_log teller
+pub logged_joins_same : (z : Settings) (i : ℕ) (l : Logged) (o : ℕ) (m : Logged) (both : View) (noted_log : List LogItem) (teller : Option Teller) → IsStanding l.view → l.ended ≡ false → m.ended ≡ false
+    → LiesBeside l m noted_log teller
     → JoinsOn z i l.view o m.view both Spent []
     → Joins (LoggedRuled z) i l o m (record l { view = both; noted_log = noted_log; teller = teller }) spent_seat
-logged_joins_same z i v o w both noted_log teller stands lies joins =
+logged_joins_same z i v o w both noted_log teller stands going other lies joins =
     subst (λ (log : List LogItem). Joins (LoggedRuled z) i v o w (record v { view = both; log = log; noted_log = noted_log; teller = teller }) spent_seat) (append-nil v.log)
-    (logged_joins z i v o w both [] noted_log teller stands tt tt tt lies joins)
+    (logged_joins z i v o w both [] noted_log teller stands going other tt tt tt lies joins)
 
 -- Cuts and joins of seats: what is told of the views holds over the table with logs, and what the log is then.
 
@@ -399,25 +441,25 @@ names_cpu l x d g seat i acts sits shown whole = record {
 }
 
 pub seat_cut : (z : Settings) (i : ℕ) (l : Logged) (v : View) (left right : View → View) (does : View → List LogItem) (tells : Logged → List LogItem) (by : Logged → Option Teller) (ds : List LogItem)
-    → l ≡ record l { view = v } → IsStanding v → AreBy (who v) ds → HasNone is_border ds → HasNone is_hear ds → does v ≡ ds → MayTell (record l { view = v }) ds (tells (record l { view = v }))
+    → l ≡ record l { view = v } → l.ended ≡ false → IsStanding v → AreBy (who v) ds → HasNone is_border ds → HasNone is_hear ds → does v ≡ ds → MayTell (record l { view = v }) ds (tells (record l { view = v }))
     → MayName (record l { view = v }) ds (by (record l { view = v })) → SplitsOn z i v (left v) (right v) ds
     → Splits (LoggedRuled z) i l (logged_after_split left does l) (fresh right tells by l)
-seat_cut z i l v left right does tells by ds is stands own borders quiet same may named on =
+seat_cut z i l v left right does tells by ds is going stands own borders quiet same may named on =
     subst (λ (m : Logged). Splits (LoggedRuled z) i m (logged_after_split left does m) (fresh right tells by m)) (sym is)
     (subst (λ (d : List LogItem). Splits (LoggedRuled z) i (record l { view = v }) (record l { view = left v; log = l.log ++ d })
-    (record { view = right v; log = []; known_log = tells (record l { view = v }); noted_log = []; teller = by (record l { view = v }); list = [] })) (sym same)
-    (logged_splits z i (record l { view = v }) (left v) (right v) ds (tells (record l { view = v })) (by (record l { view = v })) stands own borders quiet may named on))
+    (record { view = right v; log = []; known_log = tells (record l { view = v }); noted_log = []; teller = by (record l { view = v }); list = []; ends = []; ended = false })) (sym same)
+    (logged_splits z i (record l { view = v }) (left v) (right v) ds (tells (record l { view = v })) (by (record l { view = v })) stands going own borders quiet may named on))
 
 pub seat_join : (z : Settings) (i o : ℕ) (l m : Logged) (v w : View) (both : View → View → View) (does : View → View → List LogItem) (ds : List LogItem)
-    → l ≡ record l { view = v } → m ≡ record m { view = w } → IsStanding v → AreBy (who v) ds → HasNone is_border ds → HasNone is_hear ds → does v w ≡ ds → JoinsOn z i v o w (both v w) Spent ds
+    → l ≡ record l { view = v } → m ≡ record m { view = w } → l.ended ≡ false → m.ended ≡ false → IsStanding v → AreBy (who v) ds → HasNone is_border ds → HasNone is_hear ds → does v w ≡ ds → JoinsOn z i v o w (both v w) Spent ds
     → Joins (LoggedRuled z) i l o m (joined_seat both does l m) spent_seat
-seat_join z i o l m v w both does ds is that stands by borders quiet same on =
+seat_join z i o l m v w both does ds is that going other stands by borders quiet same on =
     subst (λ (p : Logged × Logged). Joins (LoggedRuled z) i p.0 o p.1 (joined_seat both does p.0 p.1) spent_seat) (λ k. (sym is k, sym that k))
     (subst (λ (d : List LogItem). Joins (LoggedRuled z) i (record l { view = v }) o (record m { view = w }) (record l { view = both v w; log = l.log ++ d }) spent_seat) (sym same)
-    (logged_joins z i (record l { view = v }) o (record m { view = w }) (both v w) ds l.noted_log l.teller stands by borders quiet (inl (refl, refl)) on))
+    (logged_joins z i (record l { view = v }) o (record m { view = w }) (both v w) ds l.noted_log l.teller stands going other by borders quiet (inl (refl, refl)) on))
 
 pub seat_with_note : (z : Settings) (i o : ℕ) (l m : Logged) (v w : View) (both : View → View → View)
-    → l ≡ record l { view = v } → m ≡ record m { view = w } → IsStanding v → JoinsOn z i v o w (both v w) Spent [] → Joins (LoggedRuled z) i l o m (logged_with_note both l m) spent_seat
-seat_with_note z i o l m v w both is that stands on =
+    → l ≡ record l { view = v } → m ≡ record m { view = w } → l.ended ≡ false → m.ended ≡ false → IsStanding v → JoinsOn z i v o w (both v w) Spent [] → Joins (LoggedRuled z) i l o m (logged_with_note both l m) spent_seat
+seat_with_note z i o l m v w both is that going other stands on =
     subst (λ (p : Logged × Logged). Joins (LoggedRuled z) i p.0 o p.1 (logged_with_note both p.0 p.1) spent_seat) (λ k. (sym is k, sym that k))
-    (logged_joins_same z i (record l { view = v }) o (record m { view = w }) (both v w) m.known_log m.teller stands (inr (refl, refl)) on)
+    (logged_joins_same z i (record l { view = v }) o (record m { view = w }) (both v w) m.known_log m.teller stands going other (inr (refl, refl)) on)

@@ -1,5 +1,5 @@
 -- Notes on the words: what a seat has seen is told and heard.
-use Rattle.std.proofs.Common.{[], ◌≡◌, inl, ℕ, ◌≤◌, List, length, take, get_or, set, Some, None, refl, sym, ap, ◌∙◌, subst, arith, get_or-set_same, get_or-set_other}
+use Rattle.std.proofs.Common.{[], ◌≡◌, inl, false, ℕ, ◌≤◌, List, length, take, get_or, set, Some, None, refl, sym, ap, ◌∙◌, subst, arith, get_or-set_same, get_or-set_other}
 use Rattle.std.specs.Prelude.{slice_index}
 use mathlib.Core.List.{IsPrefix}
 use Rattle.atomic_table.specs.Table.{Splits, Joins}
@@ -51,20 +51,20 @@ keeper_tells k may g good had =
 
 -- the same of a seat
 
-pub cpu_splits : (z : Settings) (i : ℕ) (l : Logged) (x : CpuView) (c : ℕ) → l ≡ record l { view = Cpu (cpu_of l.view) } → cpu_of l.view ≡ x → x.id ≡ c → IsIdle x
+pub cpu_splits : (z : Settings) (i : ℕ) (l : Logged) (x : CpuView) (c : ℕ) → l ≡ record l { view = Cpu (cpu_of l.view) } → l.ended ≡ false → cpu_of l.view ≡ x → x.id ≡ c → IsIdle x
     → Splits (LoggedRuled z) i l (logged_after_split as_before tells_pass l) (fresh pass_told known_log_of told_by_cpu l)
-cpu_splits z i l x c is view id idle = seat_cut z i l (Cpu x) as_before pass_told tells_pass known_log_of told_by_cpu (did (Tell (Some c)) Done)
-    (is ∙ ap (λ (u : CpuView). record l { view = Cpu u }) view) tt (ap the_cpu (sym id), tt) (refl, tt) (refl, tt) (λ k. did (Tell (Some (id k))) Done) (tells_known (record l { view = Cpu x }) (did (Tell (Some c)) Done))
+cpu_splits z i l x c is going view id idle = seat_cut z i l (Cpu x) as_before pass_told tells_pass known_log_of told_by_cpu (did (Tell (Some c)) Done)
+    (is ∙ ap (λ (u : CpuView). record l { view = Cpu u }) view) going tt (ap the_cpu (sym id), tt) (refl, tt) (refl, tt) (λ k. did (Tell (Some (id k))) Done) (tells_known (record l { view = Cpu x }) (did (Tell (Some c)) Done))
     (names_cpu l x (log_item (Tell (Some c)) Done)) (splits z i (Tell (Some c)) (Cpu x) x.pass (cpu_tells x c id idle))
 
 pub cpu_splits_by : (v a : View) (x : CpuView) (c : ℕ) → cpu_of v ≡ x → a ≡ pass_told v → x.id ≡ c → IsIdle x → SplitsBy (Tell (Some c)) (Cpu x) (Cpu x) (Note (note_of a))
 cpu_splits_by v a x c view right id idle =
     subst (λ h. SplitsBy (Tell (Some c)) (Cpu x) (Cpu x) (Note h)) (sym (ap note_of right ∙ ap (λ (u : CpuView). u.pass) view)) (tells_by (Tell (Some c)) (Cpu x) x.pass (cpu_tells x c id idle))
 
-pub keeper_splits : (z : Settings) (i : ℕ) (l : Logged) (k : KeeperView) → l ≡ record l { view = Keeper (keeper_of l.view) } → keeper_of l.view ≡ k → k.due ≡ Rest
+pub keeper_splits : (z : Settings) (i : ℕ) (l : Logged) (k : KeeperView) → l ≡ record l { view = Keeper (keeper_of l.view) } → l.ended ≡ false → keeper_of l.view ≡ k → k.due ≡ Rest
     → Splits (LoggedRuled z) i l (logged_after_split as_before tells_history l) (fresh history_told (whole_log tells_history) no_teller l)
-keeper_splits z i l k is view may = seat_cut z i l (Keeper k) as_before history_told tells_history (whole_log tells_history) no_teller (did (Tell None) Done)
-    (is ∙ ap (λ (u : KeeperView). record l { view = Keeper u }) view) tt (refl, tt) (refl, tt) (refl, tt) refl (tells_whole (record l { view = Keeper k }) (did (Tell None) Done) tt)
+keeper_splits z i l k is going view may = seat_cut z i l (Keeper k) as_before history_told tells_history (whole_log tells_history) no_teller (did (Tell None) Done)
+    (is ∙ ap (λ (u : KeeperView). record l { view = Keeper u }) view) going tt (refl, tt) (refl, tt) (refl, tt) refl (tells_whole (record l { view = Keeper k }) (did (Tell None) Done) tt)
     (names_nobody (record l { view = Keeper k }) (did (Tell None) Done)) (splits z i (Tell None) (Keeper k) k.history (keeper_tells k may))
 
 pub keeper_splits_by : (v a : View) (k : KeeperView) → keeper_of v ≡ k → a ≡ history_told v → k.due ≡ Rest → SplitsBy (Tell None) (Keeper k) (Keeper k) (Note (note_of a))
@@ -122,13 +122,15 @@ keeper_beside k h = record {
 -- the same of two seats, whose views are a CPU's or the keeper's, and a note
 
 pub cpu_joins : (z : Settings) (i o : ℕ) (l m : Logged) → l ≡ record l { view = Cpu (cpu_of l.view) } → m ≡ record m { view = Note (note_of m.view) }
+    → l.ended ≡ false → m.ended ≡ false
     → Joins (LoggedRuled z) i l o m (logged_with_note beside_cpu l m) spent_seat
-cpu_joins z i o l m is that = seat_with_note z i o l m (Cpu (cpu_of l.view)) (Note (note_of m.view)) beside_cpu is that tt
+cpu_joins z i o l m is that going other = seat_with_note z i o l m (Cpu (cpu_of l.view)) (Note (note_of m.view)) beside_cpu is that going other tt
     (joins z i o (Cpu (cpu_of l.view)) (beside_cpu (Cpu (cpu_of l.view)) (Note (note_of m.view))) (note_of m.view) (cpu_beside (cpu_of l.view) (note_of m.view)))
 
 pub keeper_joins : (z : Settings) (i o : ℕ) (l m : Logged) → l ≡ record l { view = Keeper (keeper_of l.view) } → m ≡ record m { view = Note (note_of m.view) }
+    → l.ended ≡ false → m.ended ≡ false
     → Joins (LoggedRuled z) i l o m (logged_with_note beside_keeper l m) spent_seat
-keeper_joins z i o l m is that = seat_with_note z i o l m (Keeper (keeper_of l.view)) (Note (note_of m.view)) beside_keeper is that tt
+keeper_joins z i o l m is that going other = seat_with_note z i o l m (Keeper (keeper_of l.view)) (Note (note_of m.view)) beside_keeper is that going other tt
     (joins z i o (Keeper (keeper_of l.view)) (beside_keeper (Keeper (keeper_of l.view)) (Note (note_of m.view))) (note_of m.view) (keeper_beside (keeper_of l.view) (note_of m.view)))
 
 -- The load that hears

@@ -18,7 +18,7 @@ use Rattle.protocol.proofs.Cells.{get_or_all}
 use Rattle.protocol.proofs.keeps.MarkKeeps.{cell_all, rows_all}
 use Rattle.protocol.proofs.keeps.Keeping.{opening_holds, step_holds}
 use Rattle.protocol.proofs.Occupied.{not_vacant}
-use Rattle.cpu_words.specs.Common.{CpuView, Logged, View, Spot, section_of, passive_of, count_of, head_word, live_of, next_of, record_of, total_of, index, IsSpot, word_at, Seated, new_keeper, first_view, Shown, Sits, Good, Ruled, IsStanding, Knows, HasItsSections, LoggedRuled, first_logged, HasComeIf, AreOpening, AreSeats, cpu_seat, KeeperView, Keeper, Cpu, SameHand, cpu_view, new_cpu, CpuShown, KeeperShown, cpu_of, keeper_of, ShowsViews, IsFresh, did, SplitsBy, SplitsOn, MaySeat, one_seated, with_cpu_seated, next_seat, the_cpu, logged_after_split, no_log, no_teller, fresh, seats_next, keeper_with, IsShownAs, IsShown, Makes, SectionMayHold, IsShownCpu, HasWholePass}
+use Rattle.cpu_words.specs.Common.{CpuView, Logged, View, Spot, section_of, passive_of, count_of, head_word, live_of, next_of, record_of, total_of, index, IsSpot, word_at, Seated, new_keeper, first_view, Shown, Sits, Good, Ruled, IsStanding, Knows, HasItsSections, LoggedRuled, AreStillThere, first_logged, HasComeIf, AreOpening, AreSeats, cpu_seat, KeeperView, Keeper, Cpu, SameHand, cpu_view, new_cpu, CpuShown, KeeperShown, cpu_of, keeper_of, ShowsViews, IsFresh, did, SplitsBy, SplitsOn, MaySeat, one_seated, with_cpu_seated, next_seat, the_cpu, logged_after_split, no_log, no_teller, fresh, seats_next, keeper_with, IsShownAs, IsShown, Makes, SectionMayHold, IsShownCpu, HasWholePass}
 use Rattle.cpu_words.specs.declared.view.InHand.TheVariants.{Empty as NoEntry}
 use Rattle.cpu_words.proofs.shown.Placing.{below_size, same_spot, agrees_same}
 use Rattle.cpu_words.proofs.logs.Told.{no_act}
@@ -126,6 +126,7 @@ opens z words fit are = record {
   lists = first_alone (first_logged z) (λ i l. IsPrefix l.list []) ([], refl);
   sections = first_alone (first_logged z) (λ i l. IsStanding l.view → HasItsSections i l) (λ _. record { lacks = []; are = refl; none = tt });
   heard = λ i l at stands d first rest is hear. absurd (no_act first rest (i, d) is);
+  ends = first_alone (first_logged z) (λ i l. AreStillThere (first_logged z ∷ []) l.ends) (λ n e is. absurd (some-ne-none e (sym is)));
 }
 
 -- the seats of the first CPUs
@@ -284,10 +285,10 @@ splits z i k may s r at =
 
 -- the same of a seat, whose view is the keeper's
 
-pub seat_splits : (z : Settings) (i : ℕ) (l : Logged) (k : KeeperView) → l ≡ record l { view = Keeper (keeper_of l.view) } → keeper_of l.view ≡ k → MaySeat k
+pub seat_splits : (z : Settings) (i : ℕ) (l : Logged) (k : KeeperView) → l ≡ record l { view = Keeper (keeper_of l.view) } → l.ended ≡ false → keeper_of l.view ≡ k → MaySeat k
     → Splits (LoggedRuled z) i l (logged_after_split with_cpu_seated seats_next l) (fresh next_seat no_log no_teller l)
-seat_splits z i l k is view may = seat_cut z i l (Keeper k) with_cpu_seated next_seat seats_next no_log no_teller (did (Seat k.seated) Done)
-    (is ∙ ap (λ (u : KeeperView). record l { view = Keeper u }) view) tt (refl, tt) (refl, tt) (refl, tt) refl (tells_nothing (record l { view = Keeper k }) (did (Seat k.seated) Done))
+seat_splits z i l k is going view may = seat_cut z i l (Keeper k) with_cpu_seated next_seat seats_next no_log no_teller (did (Seat k.seated) Done)
+    (is ∙ ap (λ (u : KeeperView). record l { view = Keeper u }) view) going tt (refl, tt) (refl, tt) (refl, tt) refl (tells_nothing (record l { view = Keeper k }) (did (Seat k.seated) Done))
     (names_nobody (record l { view = Keeper k }) (did (Seat k.seated) Done)) (splits z i k may)
 
 pub seat_splits_by : (v a b : View) (k : KeeperView) → keeper_of v ≡ k → a ≡ with_cpu_seated v → b ≡ next_seat v → MaySeat k

@@ -1,5 +1,5 @@
 -- The CPU is inside, and acquires.
-use Rattle.std.proofs.Common.{◌≡◌, ◌≢◌, None, inr, subst, sym}
+use Rattle.std.proofs.Common.{◌≢◌, None, inr, subst, sym}
 use Rattle.passive_list.specs.Common.{OnPlainCpu}
 use Rattle.c_handles.specs.OnHandle.{held_by}
 use Rattle.c_calls.specs.LocalCalls.{AcquiresLocalInside}

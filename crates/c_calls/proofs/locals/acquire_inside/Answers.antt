@@ -1,5 +1,5 @@
 -- The CPU is inside, and acquires.
-use Rattle.std.proofs.Common.{◌≡◌, ◌<◌, Ok, Err, refl, sym, ap, subst, ◌∙◌}
+use Rattle.std.proofs.Common.{◌<◌, Ok, Err, refl, sym, ap, subst, ◌∙◌}
 use Rattle.c_calls.specs.Types.{ReferenceView}
 use Rattle.passive_list.specs.Common.{OnPlainCpu, OnPlainRef}
 use Rattle.local_count.specs.{AcquiresEntryLocal}

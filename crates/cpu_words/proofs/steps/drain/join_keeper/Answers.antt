@@ -10,8 +10,8 @@ join_seat-requires c = (
   search rules,
   search rules,
   let w = c.words.invariant.1 in omega arith,
-  joins_keeper _ _ _ _ _ c.args.keeper.now.view c.args.reference.view (ap (λ (m : Me ℕ Logged). m.0) c.keeper.invariant) (ap (λ (s : Seated KeeperView). s.view) c.keeper.view_is)
-      (ap (λ (m : Me ℕ Logged). m.0) c.reference.invariant) (ap (λ (s : Seated ReferenceView). s.view) c.reference.view_is) c.requires.may,
+  joins_keeper _ _ _ _ _ c.args.keeper.now.view c.args.reference.view (ap (λ (m : Me ℕ Logged). m.0) c.keeper.invariant.0) c.keeper.invariant.1 (ap (λ (s : Seated KeeperView). s.view) c.keeper.view_is)
+      (ap (λ (m : Me ℕ Logged). m.0) c.reference.invariant.0) c.reference.invariant.1 (ap (λ (s : Seated ReferenceView). s.view) c.reference.view_is) c.requires.may,
 )
 
 pub returns-clause-event : goal.returns-clause-event

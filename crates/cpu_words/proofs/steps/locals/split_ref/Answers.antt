@@ -8,7 +8,7 @@ pub split_seat-requires : goal.split_seat-requires
 split_seat-requires c = (
   search rules,
   let w = c.words.invariant.1 in omega arith,
-  seat_splits _ _ _ c.args.seat.now.view _ (ap (λ (m : Me ℕ Logged). m.0) c.seat.invariant) (ap (λ (s : Seated CpuView). s.view) c.seat.view_is) (ap the_cpu (sym c.requires.cpu))
+  seat_splits _ _ _ c.args.seat.now.view _ (ap (λ (m : Me ℕ Logged). m.0) c.seat.invariant.0) c.seat.invariant.1 (ap (λ (s : Seated CpuView). s.view) c.seat.view_is) (ap the_cpu (sym c.requires.cpu))
       (does_split_ref c.args.seat.now.view _ c.requires.cpu c.requires.may) (split_ref_leaves _ _ c.requires.cpu c.requires.may),
 )
 

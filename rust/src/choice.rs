@@ -1,0 +1,293 @@
+//! How a name chooses its registry of a `Table`, and what a thread's handle remembers of that. The
+//! choice is a hash under a secret, and never changes.
+
+use crate::ffi;
+use crate::name::Key;
+use std::cell::Cell;
+use std::collections::hash_map::RandomState;
+use std::hash::{BuildHasher, Hasher};
+
+/// The places of a line of the cache.
+const WAYS: usize = 4;
+
+/// How many names must miss their line, if it is full, before one of them gets a place.
+const PATIENCE: u32 = 8;
+
+/// How a name chooses its registry, and a number says which it is of.
+#[derive(Clone)]
+pub struct Choice {
+    secret: RandomState,
+    /// Of a name's product, which finds its place in a memory. Both odd.
+    factors: [u64; 2],
+    pub registries: usize,
+    /// Of each registry.
+    pub slots: u8,
+    /// What the table was opened for.
+    pub entries: u32,
+    /// Of a number, which say whose it is.
+    bits: u32,
+}
+
+fn divided_up(number: u64, by: u64) -> u64 {
+    (number + by - 1) / by
+}
+
+/// As many registries as there may be, because lists are short then: with m names in each of R on
+/// average, R (e/4)^m / sqrt(4 pi m) is below 10^-12 if m is at least 64, and 2 more for each bit
+/// of an index.
+fn registries_for(entries: u64) -> u64 {
+    let least = divided_up(2 * entries, ffi::MOST_SLOTS as u64);
+    let fit = |bits: u64| (entries / (64 + 2 * bits)).min(1 << bits);
+    (1..32).map(fit).fold(least, u64::max)
+}
+
+#[inline]
+fn hash_of<const WORDS: usize>(secret: &RandomState, words: [u64; WORDS]) -> u64 {
+    let mut hasher = secret.build_hasher();
+    words.iter().for_each(|word| hasher.write_u64(*word));
+    hasher.finish()
+}
+
+impl Choice {
+    /// One registry if all entries fit in it. Else there are two slots for each entry.
+    pub fn of(entries: u32) -> Choice {
+        let all = u64::from(entries);
+        let (registries, slots) = if all <= ffi::MOST_SLOTS as u64 {
+            (1, all)
+        } else {
+            let registries = registries_for(all);
+            (registries, divided_up(2 * all, registries))
+        };
+        let secret = RandomState::new();
+        Choice {
+            factors: [0, 1].map(|word| hash_of(&secret, [word]) | 1),
+            secret,
+            registries: registries as usize,
+            slots: slots as u8,
+            entries,
+            bits: registries.next_power_of_two().trailing_zeros(),
+        }
+    }
+
+    /// The index of the name's registry.
+    #[inline]
+    pub fn index(&self, key: Key) -> usize {
+        if self.registries == 1 {
+            return 0;
+        }
+        let hash = hash_of(&self.secret, [key.words.high, key.words.low]);
+        (((hash >> 32) * self.registries as u64) >> 32) as usize
+    }
+
+    /// The number of an entry in its table, of that in the registry with this index.
+    pub fn number(&self, own: u64, index: usize) -> u64 {
+        own << self.bits | index as u64
+    }
+
+    /// An empty memory, with five places for two entries at least. With one registry there is
+    /// nothing to remember, so one line is enough.
+    pub fn memory(&self) -> Memory {
+        let entries = if self.registries > 1 { u64::from(self.entries) } else { 1 };
+        let lines = divided_up(divided_up(5 * entries, 2), WAYS as u64).next_power_of_two();
+        Memory {
+            lines: (0..lines).map(|_| Line::default()).collect(),
+            line_bits: lines.trailing_zeros(),
+            missed: Cell::new(0),
+        }
+    }
+}
+
+/// A name and the index that it chose. A name's product is a sum, whose first bits are the number
+/// of its line. `rest` has the product's other bits first, and then the index. The factor of the
+/// name's high word is odd, so line, rest and low word are those of one name alone: all of it is
+/// compared.
+#[derive(Clone, Copy)]
+struct Place {
+    low: u64,
+    /// All bits are set in a vacant place.
+    rest: u64,
+}
+
+/// Places of a line of the cache.
+#[repr(align(64))]
+struct Line([Cell<Place>; WAYS]);
+
+impl Default for Line {
+    /// All vacant.
+    fn default() -> Line {
+        let vacant = || Cell::new(Place { low: 0, rest: u64::MAX });
+        Line([vacant(), vacant(), vacant(), vacant()])
+    }
+}
+
+/// A name's own place is where it is sought first. The others of its line come after it.
+struct Sought {
+    line: usize,
+    own: usize,
+    /// With the index 0.
+    place: Place,
+}
+
+/// What one thread's handle remembers of its table's choice, so that it hashes few names twice.
+pub struct Memory {
+    lines: Box<[Line]>,
+    /// Of a name's product, which are the number of its line.
+    line_bits: u32,
+    /// Names, while all places of their line were taken.
+    missed: Cell<u32>,
+}
+
+impl Memory {
+    /// The index of the name's registry, which is hashed only if it isn't remembered.
+    #[inline]
+    pub fn index(&self, choice: &Choice, key: Key) -> usize {
+        if choice.registries == 1 {
+            return 0;
+        }
+        let sought = self.sought(choice, key);
+        let own = self.place(&sought, 0).get();
+        match index_at(own, &sought) {
+            Some(index) if index < choice.registries => index,
+            _ => self.found_further(choice, key),
+        }
+    }
+
+    #[inline]
+    fn sought(&self, choice: &Choice, key: Key) -> Sought {
+        let ffi::Name { high, low } = key.words;
+        let [one, other] = choice.factors;
+        let product = high.wrapping_mul(one).wrapping_add(low.wrapping_mul(other));
+        let number = (product >> (u64::BITS - 2 - self.line_bits)) as usize;
+        let place = Place { low, rest: product << self.line_bits };
+        Sought { line: number / WAYS, own: number % WAYS, place }
+    }
+
+    #[inline]
+    fn place(&self, sought: &Sought, way: usize) -> &Cell<Place> {
+        &self.lines[sought.line].0[sought.own ^ way]
+    }
+
+    /// The index of a name that isn't in its own place. It stands apart: it is seldom called.
+    #[inline(never)]
+    fn found_further(&self, choice: &Choice, key: Key) -> usize {
+        let sought = self.sought(choice, key);
+        let found = (1..WAYS)
+            .filter_map(|way| index_at(self.place(&sought, way).get(), &sought))
+            .find(|index| *index < choice.registries);
+        found.unwrap_or_else(|| {
+            let index = choice.index(key);
+            self.remember(&sought, index);
+            index
+        })
+    }
+
+    /// Remembers an index, if its line has a vacant place, or has missed many names.
+    fn remember(&self, sought: &Sought, index: usize) {
+        let Place { low, rest } = sought.place;
+        let vacant =
+            (0..WAYS).map(|way| self.place(sought, way)).find(|at| at.get().rest == u64::MAX);
+        if let Some(place) = vacant.or_else(|| self.is_due().then(|| self.place(sought, 0))) {
+            place.set(Place { low, rest: rest | index as u64 });
+        }
+    }
+
+    /// Counts a name that misses a full line: whether it gets a place.
+    fn is_due(&self) -> bool {
+        self.missed.set(self.missed.get().wrapping_add(1));
+        self.missed.get() % PATIENCE == 0
+    }
+}
+
+/// The index that a place has, if it has the name; any larger number is none.
+#[inline]
+fn index_at(place: Place, sought: &Sought) -> Option<usize> {
+    let index = place.rest ^ sought.place.rest;
+    (place.low == sought.place.low).then_some(index as usize)
+}
+
+#[cfg(test)]
+mod tests {
+    use super::{index_at, Choice, Memory, PATIENCE, WAYS};
+    use crate::{ffi, Key, Kind};
+    use std::collections::hash_map::DefaultHasher;
+    use std::hash::Hasher;
+
+    /// As in kupaldiz_table.h.
+    #[test]
+    fn a_table_has_two_slots_for_each_entry() {
+        for (entries, registries, slots, bits) in [
+            (1, 1, 1, 0),
+            (255, 1, 255, 0),
+            (256, 3, 171, 2),
+            (1100, 15, 147, 4),
+            (10_000, 128, 157, 7),
+            (u32::MAX, 37_025_580, 233, 26),
+        ] {
+            let choice = Choice::of(entries);
+            assert_eq!(
+                (choice.registries, choice.slots, choice.bits),
+                (registries, slots, bits),
+                "{entries}"
+            );
+        }
+        let places = [255, 1000, 13_107, 13_108]
+            .map(|entries| Choice::of(entries).memory().lines.len() * WAYS);
+        assert_eq!(places, [4, 4096, 32_768, 65_536]);
+    }
+
+    /// The tests of kupaldiz_table.h rest on it: both choose by SipHash-1-3.
+    #[test]
+    fn the_standard_hasher_is_that_of_c() {
+        let mut hasher = DefaultHasher::new();
+        hasher.write_u64(0x0706_0504_0302_0100);
+        hasher.write_u64(0x0f0e_0d0c_0b0a_0908);
+        assert_eq!(hasher.finish(), 0x8972_1884_33a5_c5b7);
+    }
+
+    fn key(high: u64, low: u64) -> Key {
+        Key { kind: Kind::Driver, words: ffi::Name { high, low } }
+    }
+
+    /// The index that a memory has of a name.
+    fn remembered(memory: &Memory, choice: &Choice, key: Key) -> Option<usize> {
+        let sought = memory.sought(choice, key);
+        (0..WAYS)
+            .filter_map(|way| index_at(memory.place(&sought, way).get(), &sought))
+            .find(|index| *index < choice.registries)
+    }
+
+    /// Names that differ in one word or in both, many more than places. Each index is that of the
+    /// hash, whether it is remembered or not, and by the memory of another choice, too.
+    #[test]
+    fn what_is_remembered_is_what_the_hash_says() {
+        let choices = [Choice::of(600), Choice::of(600)];
+        let memories = [choices[0].memory(), choices[1].memory()];
+        let names: Vec<Key> = (1..80)
+            .flat_map(|one| (0..80).map(move |other| key(one, other)))
+            .chain((1..600).map(Key::from))
+            .collect();
+        let mut found = 0;
+        for key in names.iter().chain(&names).chain(names.iter().rev()) {
+            for (memory, choice) in memories.iter().zip(&choices) {
+                found += usize::from(remembered(memory, choice, *key).is_some());
+                assert_eq!(memory.index(choice, *key), choice.index(*key), "{key:?}");
+            }
+        }
+        assert!(found > 1000 && found < 2 * names.len());
+    }
+
+    /// A line has its first names, and keeps most of them although others are looked up.
+    #[test]
+    fn a_line_is_patient() {
+        let choice = Choice::of(600);
+        let memory = choice.memory();
+        let line = |key: &Key| memory.sought(&choice, *key).line;
+        let all = (1..).map(|high| key(high, 1));
+        let names: Vec<Key> = all.filter(|name| line(name) == 0).take(WAYS + 2).collect();
+        names.iter().for_each(|name| assert_eq!(memory.index(&choice, *name), choice.index(*name)));
+        let has = |name: &Key| remembered(&memory, &choice, *name).is_some();
+        assert!(names[..WAYS].iter().all(has) && !names[WAYS..].iter().any(has));
+        (2..PATIENCE).for_each(|_| assert!(memory.index(&choice, names[WAYS]) < 600));
+        assert!(has(&names[WAYS]) && names[..WAYS].iter().filter(|name| has(name)).count() == 3);
+    }
+}
