@@ -35,6 +35,8 @@ BY_ROWS = ("script_tests", "registry_run")
 # of a proof that names what an edit took away says nothing of the edit.
 STATE = re.compile(r"^fn (\S+): (.*)$", re.M)
 CALLS = "no proof: it calls "
+# What it says of a function whose goals weren't searched for, as its proof can't be read.
+UNSEARCHED = re.compile(r"no proof: expected answers in \S+")
 GONE = r"has no field|is not in scope|has no `|was not admitted"
 GOAL = re.compile(rf"^(?:note: |\./)?((?:src|specs|proofs)/\S+:\d+:\d+: (?!.*(?:{GONE})).*(?:not proved|error).*)$", re.M)
 UNREAD = re.compile(r"^(?:\./)?(?:src|specs)/\S+: error.*|^error\[.*", re.M)
@@ -99,7 +101,7 @@ def judged(edit, said, is_alone):
     if not failed:
         return "", f"NOT REFUSED: {', '.join(own) or 'the whole crate'} still proved"
     found = [goal for goal in GOAL.findall(said) if is_alone or is_of(goal, edit, failed)]
-    found += [state for state in failed.values() if state.startswith("no proof")]
+    found += [state for state in failed.values() if state.startswith("no proof") and not UNSEARCHED.fullmatch(state)]
     return (found[0][:200], "") if found else ("", "NOT TRIED: it is refused only because a proof names what it took away")
 
 

@@ -10,6 +10,7 @@ import collections
 import pathlib
 import re
 import sys
+import textwrap
 
 ROOT = pathlib.Path(__file__).resolve().parents[2]
 FIGURES = "### Figures of tables\n"
@@ -40,6 +41,10 @@ def read(text):
     return rows
 
 
+def paragraph(text):
+    return textwrap.fill(text, 100, break_on_hyphens=False) + "\n"
+
+
 def number(value):
     if value is None:
         return "-"
@@ -52,12 +57,12 @@ def cell(rows, contender, size, columns):
 
 
 def table(rows, heading, columns):
-    yield f"{heading}\n"
+    yield paragraph(heading)
     yield "| | " + " | ".join(f"{size:,}" for size in SIZES) + " |"
     yield "|---" * (len(SIZES) + 1) + "|"
     for contender in ORDER:
         cells = [cell(rows, contender, size, columns) for size in SIZES]
-        if any(cells):
+        if any(cells) and not (contender.startswith("bare") and columns[0][0] == "bytes"):
             yield f"| `{contender}` | " + " | ".join(cells) + " |"
     yield ""
 
@@ -65,8 +70,8 @@ def table(rows, heading, columns):
 def remembered(rows):
     """What a remembered lookup takes beside a registry of 8, and beside what the caches miss."""
     small, loads = rows["registry", 1, 8]["later"], rows["bare-hit", 1, 8]["later"]
-    yield ("A later lookup beside one in a registry of 8, with one thread: the loads are "
-           "`bare-hit` less what it takes with 8 names.\n")
+    yield paragraph("A later lookup beside one in a registry of 8, with one thread: the loads are "
+                    "`bare-hit` less what it takes with 8 names.")
     yield "| Names | later | registry of 8 | loads | the rest |"
     yield "|---|---|---|---|---|"
     for size in SIZES:
@@ -77,19 +82,24 @@ def remembered(rows):
     yield ""
 
 
+def rounded(value):
+    return f"{value:,.0f}" if value >= 10 else f"{value:.1f}" if value >= 0.1 else f"{value:.1g}"
+
+
 def ratio(rows, measure, threads, ours, other):
     """How many times as much ours takes as the other: the least and the most of all sizes."""
     def value(contender, size):
         return rows.get((contender, threads, size), {}).get(measure)
     both = [(value(ours, size), value(other, size)) for size in SIZES]
     found = [mine / theirs for mine, theirs in both if mine and theirs]
-    return f"{min(found):.2g} to {max(found):.2g}" if found else ""
+    return f"{rounded(min(found))} to {rounded(max(found))}" if found else ""
 
 
 def compared(rows):
     """Losses beside wins."""
-    yield ("How many times as long ours takes, or as many bytes, the least and the most of all "
-           "sizes. Above 1 ours loses. Ours are `look_up` and `get`, beside `dashmap` `Table`.\n")
+    yield paragraph("How many times as long ours takes, or as many bytes, the least and the most "
+                    "of all sizes. Above 1 ours loses. Ours are `look_up` and `get`, beside "
+                    "`dashmap` `Table`.")
     others = [each for each in ("urcu-lfht", "ck_ht", "rte_hash", "rwlock", "dashmap")
               if (each, 1, 1000) in rows][-4:]
     yield "| | " + " | ".join(f"`{other}`" for other in others) + " |"
@@ -115,7 +125,7 @@ def section(rows, name):
     for heading, columns in TABLES:
         yield from table(rows, heading, columns)
     many = ", ".join(f"{rows['look_up', 8, size]['bytes']:,.0f} with {size:,}" for size in SIZES)
-    yield f"With eight threads an entry takes, in bytes by names: {many}.\n"
+    yield paragraph(f"With eight threads an entry takes, in bytes by names: {many}.")
 
 
 Sentence = collections.namedtuple("Sentence", "page pattern text")
@@ -133,9 +143,10 @@ def sentences(rows):
                  f"With 8 threads it takes {of(8, 10000):,.0f} bytes an\n  entry at 10,000 entries "
                  f"and {of(8, 100000):,.0f} at 100,000; with 4 threads {of(4, 10000):,.0f}, with "
                  f"one {of(1, 10000):,.0f}."),
-        Sentence("docs/CHOOSING.md", r"\[[\d.]+ KB with 8\n", f"[{of(8, 10000) / 1000:.1f} KB with 8\n"),
-        Sentence("docs/CHOOSING.md", r"\[[\d.]+ to [\d.]+ microseconds\]",
-                 f"[{min(first):.1f} to {max(first):.1f} microseconds]"),
+        Sentence("docs/CHOOSING.md", r"\[[\d.]+ KB with 8\n",
+                 f"[{of(8, 10000) / 1000:.1f} KB with 8\n"),
+        Sentence("docs/CHOOSING.md", r"\[[\d.]+ to [\d.]+\n",
+                 f"[{min(first):.1f} to {max(first):.1f}\n"),
         Sentence("docs/HOWTO-RUST.md",
                  r"an entry takes some [\d.]+ KB, beside \[[\d.]+ in\n",
                  f"an entry takes some {rows['Table', 8, 10000]['bytes'] / 1000:.1f} KB, beside "
@@ -158,7 +169,7 @@ def main():
     run = pathlib.Path(sys.argv[1])
     rows = read(run.read_text())
     text = "\n".join(section(rows, run.name))
-    put("bench/README.md", f"(?s)(?<={re.escape(FIGURES)}).*?(?=\n## )", f"\n{text}")
+    put("bench/README.md", f"(?s){FIGURES}.*?(?=\n## )", f"{FIGURES}\n{text}")
     for sentence in sentences(rows):
         put(*sentence)
 

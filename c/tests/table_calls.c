@@ -22,7 +22,7 @@ static const struct timespec PAST = {0, 0};
 static struct kupaldiz_table table;
 static struct kupaldiz_table_thread own;
 
-/* ---- What fails: the allocation of this number, from 1; and a thread's own word, if it is so. ---- */
+/* ---- What fails: the allocation of this number, from 1; and a thread's word, if it is so. ---- */
 
 static unsigned asked, failing;
 static bool refused_key;

@@ -186,7 +186,7 @@ static uint64_t remembered(const struct user *user, const struct kupaldiz_name *
 	return index;
 }
 
-/* Attaches the names, looks each up more often than the memory's places change, and removes them. */
+/* Attaches the names, looks each up more often than places change, and removes them. */
 static void look_up_in_turn(const struct user *user, const struct kupaldiz_name *names)
 {
 	struct kupaldiz_entry found;
@@ -346,7 +346,7 @@ static void *defer_one(void *of)
 	return NULL;
 }
 
-/* While a thread has the lock of one registry, another changes names of all others, and looks up. */
+/* While a thread has the lock of one registry, another changes names of others, and looks up. */
 static void test_locks(void)
 {
 	struct kupaldiz_entry gone, found;

@@ -109,6 +109,7 @@ UNSEEN static void write_unseen(unsigned *at)
 }
 
 HANDLER(write_behind, write_unseen(block + 1); kmem_free(block, sizeof(*block)))
+HANDLER(write_far_behind, write_unseen(block + 7); kmem_free(block, sizeof(*block)))
 
 enum { LONG = 4096 };
 
@@ -297,6 +298,7 @@ HANDLER(read_second_state, KASSERT(atomic_load_acquire(&state) != 2 || word == 1
 HANDLER(read_word, KASSERT(!atomic_load_acquire(&flag) || word < 2))
 HANDLER(write_word_relaxed, word = 1; atomic_store_relaxed(&flag, true))
 HANDLER(write_word_released, word = 1; atomic_store_release(&flag, true))
+HANDLER(write_word_late, membar_release(); word = 1; atomic_store_relaxed(&flag, true))
 HANDLER(write_word_fenced, word = 1; membar_release(); atomic_store_relaxed(&flag, true))
 
 HANDLER(read_block, KASSERT(*block == 0))
@@ -434,6 +436,9 @@ BODY(end_cache)
 	pool_cache_put(readable, old);
 	pool_cache_destroy(readable);
 }
+
+HANDLER(look_at_object, explorer_point(); KASSERT(*object == 5))
+HANDLER(end_looked_at, pool_cache_put(readable, object); pool_cache_destroy(readable))
 
 static void make_cache(void)
 {
@@ -595,6 +600,7 @@ static const struct find finds[] = {
 	{"a lock that is never destroyed", "what mutex_init has made at finds.c:* lies in it and was never destroyed",
 	    forget_lock, write_once},
 	{"a write behind a block", "written behind a block of", write_behind, write_once, .make = make_block},
+	{"a write further behind", "written behind a block of", write_far_behind, write_once, .make = make_block},
 	{"a write to the last bytes of freed memory", "something was written to freed memory", write_last_freed, .make = make_long_block},
 	{"a thread that never ends", "the run doesn't end", never_ends, write_once},
 	{"a crash", "the code ends by signal 11", crash, set_word},
@@ -609,6 +615,8 @@ static const struct find finds[] = {
 	{"a higher level's handler that waits", NULL, wait_for_level, write_once, .make = higher_waits},
 	{"a lower level's handler that waits", NULL, wait_for_level, write_once, .make = lower_waits},
 	{"the end of a cache that is read in sections", NULL, read_object, end_cache, .make = make_cache},
+	{"the end of a cache that is looked at outside of one", "data race: thread \"first\" reads at finds.c:*, and thread \"second\" frees at *finds.c:",
+	    look_at_object, end_looked_at, .make = make_cache},
 	{"a lock object that is left", "1 block of memory is left at the end, taken by mutex_obj_alloc at *finds.c:", write_once, write_once, .make = left_object},
 	{"the last of many targets that is left", "what psref_target_init has made at *finds.c:* is left at the end",
 	    write_once, write_once, .make = make_targets},
@@ -649,6 +657,7 @@ static const struct find finds[] = {
 	{"a relaxed store where a release is needed", "data race: ", read_word, write_word_relaxed},
 	{"a release", NULL, read_word, write_word_released},
 	{"a barrier", NULL, read_word, write_word_fenced},
+	{"a barrier that comes too soon", "data race: ", read_word, write_word_late},
 	{"freed memory by a plain access", "data race: thread \"first\" reads at finds.c:*, and thread \"second\" frees at *finds.c:",
 	    read_block, free_block, .make = make_block},
 	{"freed memory by the thread itself", "plain read at finds.c:*: use of freed memory: thread \"first\" gave it back ",

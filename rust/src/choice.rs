@@ -256,6 +256,23 @@ mod tests {
             .find(|index| *index < choice.registries)
     }
 
+    /// What makes 1 of an odd number as a factor.
+    fn inverse(odd: u64) -> u64 {
+        (0..6).fold(odd, |near, _| near.wrapping_mul(2_u64.wrapping_sub(odd.wrapping_mul(near))))
+    }
+
+    /// Names of one product, of products that differ a little, and with different first bytes.
+    fn names_of_near_products(choice: &Choice) -> impl Iterator<Item = Key> {
+        let [one, other] = choice.factors;
+        let unit = inverse(one);
+        assert_eq!(one.wrapping_mul(unit), 1);
+        let steps = [(unit, 0), (unit << 20, 0), (1 << 56, 0)];
+        let same = (0_u64.wrapping_sub(other.wrapping_mul(unit)), 1);
+        steps.into_iter().chain([same]).flat_map(|(high, low)| {
+            (1..40).map(move |step: u64| key(high.wrapping_mul(step), low * step + 1))
+        })
+    }
+
     /// Names that differ in one word or in both, many more than places. Each index is that of the
     /// hash, whether it is remembered or not, and by the memory of another choice, too.
     #[test]
@@ -265,6 +282,7 @@ mod tests {
         let names: Vec<Key> = (1..80)
             .flat_map(|one| (0..80).map(move |other| key(one, other)))
             .chain((1..600).map(Key::from))
+            .chain(names_of_near_products(&choices[0]))
             .collect();
         let mut found = 0;
         for key in names.iter().chain(&names).chain(names.iter().rev()) {
@@ -281,12 +299,16 @@ mod tests {
     fn a_line_is_patient() {
         let choice = Choice::of(600);
         let memory = choice.memory();
-        let line = |key: &Key| memory.sought(&choice, *key).line;
+        let sought = |key: &Key| memory.sought(&choice, *key);
+        let is_first = |key: &Key| (sought(key).line, sought(key).own) == (0, 0);
         let all = (1..).map(|high| key(high, 1));
-        let names: Vec<Key> = all.filter(|name| line(name) == 0).take(WAYS + 2).collect();
+        let names: Vec<Key> = all.filter(is_first).take(WAYS + 2).collect();
         names.iter().for_each(|name| assert_eq!(memory.index(&choice, *name), choice.index(*name)));
         let has = |name: &Key| remembered(&memory, &choice, *name).is_some();
         assert!(names[..WAYS].iter().all(has) && !names[WAYS..].iter().any(has));
+        let again = names.iter().take(WAYS).cycle().take(100);
+        again.for_each(|name| assert!(memory.index(&choice, *name) < choice.registries));
+        assert_eq!(memory.missed.get(), 2);
         (2..PATIENCE).for_each(|_| assert!(memory.index(&choice, names[WAYS]) < 600));
         assert!(has(&names[WAYS]) && names[..WAYS].iter().filter(|name| has(name)).count() == 3);
     }

@@ -556,9 +556,7 @@ impl<'cpu> Bench<'cpu> {
         };
         let (number, way) = (token.number(), self.dice.below(5));
         if way == 3 {
-            token.retired.defer();
-            self.deferred.push(number);
-            return drop(self.collect());
+            return self.defer(token);
         }
         if way == 4 {
             return self.await_it(token);
@@ -632,11 +630,23 @@ impl<'cpu> Bench<'cpu> {
         own.map(|cpu| Holder::Passive(cpu as u8)).or(holder).map(RegistryError::StillHeld)
     }
 
-    /// So in a section more are retired than most steps do.
-    fn change_many(&mut self) {
+    /// So a section holds many that are deferred.
+    fn defer_many(&mut self) {
         (0..self.names).for_each(|_| self.attach());
-        self.enter_or_exit();
-        (0..2 * self.names).for_each(|_| self.detach());
+        if self.open[0].is_none() {
+            self.open[0] = Some(self.cpus[0].enter().unwrap());
+            self.begun[0] += 1;
+        }
+        (0..4 * self.names).for_each(|_| self.detach());
+        while let Some(token) = self.tokens.pop() {
+            self.defer(token);
+        }
+    }
+
+    fn defer(&mut self, token: Token) {
+        self.deferred.push(token.number());
+        token.retired.defer();
+        self.collect();
     }
 
     fn free_deferred(&mut self) {
@@ -715,7 +725,7 @@ impl Bench<'_> {
             17 | 18 => self.work(),
             _ => match self.dice.below(8) {
                 0 => self.drain(),
-                1 => self.change_many(),
+                1 => self.defer_many(),
                 2..=4 => self.free_deferred(),
                 _ => self.audit(),
             },

@@ -1,8 +1,8 @@
 /*
  * choice.h - how a name chooses its registry, and what a thread's handle remembers of that
  *
- * The choice is a hash of the name under a secret. It never changes as long as the table is open, so
- * a handle that remembers it needs no hash.
+ * The choice is a hash of the name under a secret. It never changes as long as the table is open,
+ * so a handle that remembers it needs no hash.
  */
 #ifndef TABLE_CHOICE_H
 #define TABLE_CHOICE_H

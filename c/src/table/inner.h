@@ -25,8 +25,8 @@ struct registry {
 /* What a member has of one registry: its CPU, and what makes an entry of it one of the table. */
 struct seat {
 	struct kupaldiz_cpu cpu;
-	struct registry *registry;
 	uint64_t number;	/* the index of the registry, above its own numbers */
+	struct registry *registry;
 	uint64_t slot;		/* slots of the registries before it */
 };
 
@@ -85,7 +85,10 @@ static inline struct seat *seat_of_number(const struct member *member, uint64_t 
 
 /* ---- Entries: a registry's own, and as the table has them. ---- */
 
-/* A sum of both would be made in one step, which waits for the two stores of the call before. */
+/*
+ * A compiler that made both in one step would wait for the two stores of the call before. So the
+ * two aren't both sums or differences, and lie apart in a seat.
+ */
 static inline void widen(const struct seat *seat, struct kupaldiz_entry *entry)
 {
 	entry->number |= seat->number;
@@ -94,7 +97,7 @@ static inline void widen(const struct seat *seat, struct kupaldiz_entry *entry)
 
 static inline void narrow(const struct seat *seat, struct kupaldiz_entry *entry)
 {
-	entry->number -= seat->number;
+	entry->number ^= seat->number;
 	entry->slot -= seat->slot;
 }
 

@@ -14,7 +14,8 @@ use std::sync::ledger::Ledger;
 ///
 /// - the words and the views of all seats show a state of the core, and a list of events leads to it from the opening;
 /// - what each seat did is its part of that list;
-/// - what a seat has heard of the keeper's log is a prefix of the keeper's part.
+/// - what a seat has heard of the keeper's log is a prefix of the keeper's part;
+/// - a seat that has ended, and was taken over, is still there as it was.
 pub struct RegistryRule;
 
 impl TableRule<u8, Logged, Settings> for RegistryRule {

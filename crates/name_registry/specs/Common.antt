@@ -19,5 +19,5 @@ pub use Rattle.name_registry.specs.Performing.{PassesBelow, PassesEntry, PassesI
 pub use Rattle.name_registry.specs.Performing.{HaveAllEnded}
 pub use Rattle.name_registry.specs.Destroying.{StaysGoneBy}
 pub use Rattle.name_registry.specs.Performing.{word_of}
-pub use Rattle.name_registry.specs.GettingLocal.{CountsInSection, FindsAndCounts, GetsLocal, answer_of, got_of, got_with}
+pub use Rattle.name_registry.specs.GettingLocal.{CountsInSection, FindsAndCounts, GetsLocal, got_of, got_with}
 pub use Rattle.name_registry.specs.WithDriver.{AttachesByName, IsOfDriver, NamesDriver, ReplacesByName, TakesDriver, as_needed, driver_key}
