@@ -120,7 +120,7 @@ FAULTS = [
     Fault("ioctl", "replace", "a perform forgotten where an entry is replaced", (5, 2, 1), FREED, [(REPLACE, without(REPLACE, 1))]),
     Fault("ioctl", "ioctl", "a copy to the user inside the section", (1, 0, 0), r"copyout: inside a read section", [
         (ENTRY_GET, without(ENTRY_GET, 2)), (COPYOUT, COPYOUT.replace("	psref_release", "	pserialize_read_exit(0);\n	psref_release"))]),
-    Fault("ioctl", "ioctl", "a free before the destroy", (1, 0, 0), FREED, [(REMOVE, swapped(without(REMOVE, 4), 3, 4))]),
+    Fault("ioctl", "ioctl", "a free before the destroy", (1, 1, 0), FREED, [(REMOVE, swapped(without(REMOVE, 4), 3, 4))]),
     Fault("ioctl", "ioctl", "a psref acquired after the section", (3, 2, 1), FREED, [
         (ENTRY_GET, "	pserialize_read_exit(s);\n" + without(ENTRY_GET, 2))]),
     Fault("ioctl", "ioctl", "a destroy with the lock that a holder waits for", (3, 1, 1),

@@ -258,6 +258,49 @@ static void make_levels(unsigned blocked, unsigned wakes)
 	levels[1] = softint_establish(wakes | SOFTINT_MPSAFE, wake_softly, NULL);
 }
 
+/* Of two that are pending, the higher one runs first. */
+HANDLER(run_after, KASSERT(atomic_load_relaxed(&flag)))
+
+BODY(schedule_levels)
+{
+	int s = splhigh();
+	softint_schedule(levels[0]);
+	softint_schedule(levels[1]);
+	splx(s);
+	for (unsigned at = 0; at < 2; at++)
+		softint_disestablish(levels[at]);
+}
+
+static void make_pending(void)
+{
+	levels[0] = softint_establish(SOFTINT_BIO | SOFTINT_MPSAFE, run_after, NULL);
+	levels[1] = softint_establish(SOFTINT_NET | SOFTINT_MPSAFE, wake_softly, NULL);
+}
+
+/* A signal wakes the one that has waited longest. */
+BODY(wait_in_turn)
+{
+	mutex_enter(&one);
+	unsigned own = ++word;
+	if (!flag)
+		cv_wait(&cv, &one);
+	KASSERT(flag || own == 1);
+	flag = true;
+	cv_broadcast(&cv);
+	mutex_exit(&one);
+}
+
+BODY(signal_once)
+{
+	mutex_enter(&one);
+	flag = word < 2;
+	if (flag)
+		cv_broadcast(&cv);
+	else
+		cv_signal(&cv);
+	mutex_exit(&one);
+}
+
 static void higher_waits(void) { make_levels(SOFTINT_SERIAL, SOFTINT_CLOCK); }
 static void lower_waits(void) { make_levels(SOFTINT_CLOCK, SOFTINT_NET); }
 
@@ -345,6 +388,8 @@ BODY(share_stack)
 }
 
 HANDLER(make_self, make_worker(look_for_self, NULL); kthread_join(worker))
+HANDLER(lock_and_exit, mutex_enter(&one); mutex_exit(&one); kthread_exit(0))
+HANDLER(join_with_lock, mutex_enter(&one); make_worker(lock_and_exit, NULL); kthread_join(worker); mutex_exit(&one))
 HANDLER(copy_in, copyin(from, text, sizeof(text)))
 static void do_nothing(struct work *work, void *arg) { (void)work; (void)arg; }
 
@@ -614,6 +659,10 @@ static const struct find finds[] = {
 	{"a drain beside another waiter", NULL, wait_beside, drain_and_wake, release_last, .make = acquire_one},
 	{"a higher level's handler that waits", NULL, wait_for_level, write_once, .make = higher_waits},
 	{"a lower level's handler that waits", NULL, wait_for_level, write_once, .make = lower_waits},
+	{"two levels that are pending", NULL, schedule_levels, write_once, .make = make_pending},
+	{"the one that waits longest", NULL, wait_in_turn, signal_once, wait_in_turn},
+	{"a join with a lock that the thread waits for", "deadlock: thread \"first\" waits in kthread_join at *finds.c:* for its end of thread \"worker\"; "
+	    "thread \"worker\" waits in mutex_enter at *finds.c:* for the lock of thread \"first\"", join_with_lock},
 	{"the end of a cache that is read in sections", NULL, read_object, end_cache, .make = make_cache},
 	{"the end of a cache that is looked at outside of one", "data race: thread \"first\" reads at finds.c:*, and thread \"second\" frees at *finds.c:",
 	    look_at_object, end_looked_at, .make = make_cache},
