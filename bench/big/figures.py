@@ -143,14 +143,14 @@ def sentences(rows):
                  f"With 8 threads it takes {of(8, 10000):,.0f} bytes an\n  entry at 10,000 entries "
                  f"and {of(8, 100000):,.0f} at 100,000; with 4 threads {of(4, 10000):,.0f}, with "
                  f"one {of(1, 10000):,.0f}."),
-        Sentence("docs/CHOOSING.md", r"\[[\d.]+ KB with 8\n",
-                 f"[{of(8, 10000) / 1000:.1f} KB with 8\n"),
-        Sentence("docs/CHOOSING.md", r"\[[\d.]+ to [\d.]+\n",
-                 f"[{min(first):.1f} to {max(first):.1f}\n"),
-        Sentence("docs/HOWTO-RUST.md",
-                 r"an entry takes some [\d.]+ KB, beside \[[\d.]+ in\n",
-                 f"an entry takes some {rows['Table', 8, 10000]['bytes'] / 1000:.1f} KB, beside "
-                 f"[{of(8, 10000) / 1000:.1f} in\n"),
+        Sentence("docs/CHOOSING.md", r"\[[\d.]+ KB with 8(?=\s+threads\])",
+                 f"[{of(8, 10000) / 1000:.1f} KB with 8"),
+        Sentence("docs/CHOOSING.md", r"\[[\d.]+ to [\d.]+(?=\s+microseconds\])",
+                 f"[{min(first):.1f} to {max(first):.1f}"),
+        Sentence("docs/HOWTO-RUST.md", r"(?<=takes some )[\d.]+(?= KB, beside \[)",
+                 f"{rows['Table', 8, 10000]['bytes'] / 1000:.1f}"),
+        Sentence("docs/HOWTO-RUST.md", r"(?<=KB, beside \[)[\d.]+(?=\s+in\s+C\])",
+                 f"{of(8, 10000) / 1000:.1f}"),
     )
 
 
