@@ -19,7 +19,7 @@
  * - KUPALDIZ_BAD_KIND, KUPALDIZ_BAD_NAME and what else is wrong with a value that was given
  *
  * Each comment lists its call's errors in the order in which they are tested. All calls are proved,
- * except the three of the library at the end. kupaldiz(7) has the rules for all calls.
+ * except kupaldiz_strerror and those of the library at the end. kupaldiz(7) has the rules for all.
  */
 #ifndef KUPALDIZ_H
 #define KUPALDIZ_H
