@@ -1,12 +1,13 @@
 #!/bin/sh
-# Lays out the headers of the pages' names in out/made/netbsd: links to those of include, and what is
-# made. That is in sys each header that only gives one of kupaldiz the name that the pages include (one
-# that is there stays), and in kupaldiz names.h, from netbsd.map, and places.h, from the list below.
+# Lays out the headers of the pages' names in out/made/netbsd: copies of those of include, as `rt ci`
+# takes no link, and what is made. In sys that is each header that only gives one of kupaldiz the name
+# that the pages include (one that is there stays); in kupaldiz names.h, from netbsd.map, and places.h,
+# from the list below.
 cd "$(dirname "$0")" || exit
 here=$PWD made=$PWD/../out/made/netbsd
 mkdir -p "$made/kupaldiz" "$made/sys" "$made/net" && cd include || exit
 for header in */*.h; do
-    [ "$made/$header" -ef "$header" ] || { ln -s "$here/include/$header" "$made/$header.$$" && mv -f "$made/$header.$$" "$made/$header"; }
+    cmp -s "$header" "$made/$header" || { cp -p "$header" "$made/$header.$$" && mv -f "$made/$header.$$" "$made/$header"; }
 done
 cd "$made/sys" || exit
 while read -r header names; do
