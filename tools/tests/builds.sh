@@ -9,7 +9,7 @@ built() {
     local name=$1 source=c/tests/$1.c
     shift
     [ -e "$source" ] || source=c/examples/$name.c
-    "$@" -D_POSIX_C_SOURCE=200809L -Wall -Wextra -Werror -I"$include" -Ic/include -Ic/examples -o "$room/$name" "$source" \
+    "$@" -D_POSIX_C_SOURCE=200809L -Wall -Wextra -Werror -I"$include" -Ic/include -Iout/made/c -Ic/examples -o "$room/$name" "$source" \
         c/src/waiting/*.c "$archive" -pthread
 }
 
