@@ -478,6 +478,25 @@ static void check_found(struct bench *bench)
 	}
 }
 
+/* An entry is acquired as the one found last, and sought again if another was found since. */
+static void check_sought(struct bench *bench)
+{
+	struct kupaldiz_cpu *cpu = &bench->cpus[INNER];
+	struct kupaldiz_entry found;
+	DONE(kupaldiz_find(cpu, KUPALDIZ_DRIVER, &wm, &found));
+	for (int time = 0; time < 4; time++) {
+		struct kupaldiz_passive passive = {0};
+		struct kupaldiz_local local = {0};
+		if (time == 2)
+			DONE(kupaldiz_find(cpu, KUPALDIZ_DRIVER, &full, NULL));
+		DONE(kupaldiz_acquire(cpu, &found, &passive));
+		DONE(kupaldiz_acquire_local(cpu, &found, &local));
+		EXPECT(same_entry(&passive.entry, &bench->wm) && same_entry(&local.entry, &bench->wm));
+		DONE(kupaldiz_release(cpu, &passive));
+		DONE(kupaldiz_release_local_locked(&bench->keeper, cpu, &local));
+	}
+}
+
 static void count_locals(struct bench *bench, uint64_t held)
 {
 	struct kupaldiz_met met;
@@ -620,6 +639,7 @@ int main(void)
 	EXPECT(said[0] == 0 && WIFSIGNALED(status) && WTERMSIG(status) == SIGKILL);
 	open_bench(&benches[ROOMY]);
 	check_acquired(&benches[ROOMY]);
+	check_sought(&benches[ROOMY]);
 	check_passive(&benches[ROOMY]);
 	check_found(&benches[ROOMY]);
 	close_bench(&benches[ROOMY]);
