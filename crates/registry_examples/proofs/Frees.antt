@@ -1,5 +1,5 @@
 -- How often a slot was freed, by a log: as often as the log before, and once more for each destroy that frees.
-use Rattle.std.proofs.Common.{◌≡◌, ◌∙◌, inl, inr, ℕ, zero, suc, ◌+◌, ◌<◌, ◌≤◌, Bool, true, false, List, [], ◌∷◌, ◌++◌, Option, Some, None, Result, Ok, Err, refl, sym, ap, arith}
+use Rattle.std.proofs.Common.{◌≡◌, ◌∙◌, subst, inl, inr, ℕ, zero, suc, ◌+◌, ◌*◌, ◌<◌, ◌≤◌, Bool, true, false, List, [], ◌∷◌, ◌++◌, Option, Some, None, Result, Ok, Err, refl, sym, ap, arith}
 use mathlib.Core.List.{IsPrefix}
 use Rattle.name_registry.specs.Types.{Settings, Stage, Grace, Passive, Local, Freed, Refusal, LogItem, ReferenceView, Vacate, KeptSub, Hear, Tell, Done}
 use Rattle.registry_values.specs.Common.{destroy_result_of}
@@ -8,13 +8,13 @@ use Rattle.cpu_words.specs.Common.{did}
 use Rattle.passive_list.specs.Common.{OnCpu, OnKeeper, AnswersEnter, cpu_after_tell}
 use Rattle.local_count.specs.{AnswersAcquireLocal}
 use Rattle.name_registry.specs.Common.{HasEnded, HasAdvanced, HasAdvancedFor, SomeAdvancedFor, TurnsMeeting, DestroysOutside, HasLearned, hears_cpu, keeper_after_hear}
-use Rattle.registry_examples.specs.{with_freed, frees_in, HasFreed, SomeFreed}
+use Rattle.registry_examples.specs.{Accounts, HasFreed, MakesAtMost, SomeFreed, with_freed, frees_in}
 
 with_more : (o : Option ℕ) (n a b : ℕ) → n ≡ a + b → with_freed o n ≡ with_freed o a + b
 with_more None n a b is = is
 with_more (Some t) n a b is = omega (arith, is)
 
-frees_append : (a b : List LogItem) → frees_in (a ++ b) ≡ frees_in a + frees_in b
+pub frees_append : (a b : List LogItem) → frees_in (a ++ b) ≡ frees_in a + frees_in b
 frees_append [] b = omega arith
 frees_append (d ∷ a) b = with_more (destroyed_slot d.event) (frees_in (a ++ b)) (frees_in a) (frees_in b) (frees_append a b)
 
@@ -95,9 +95,11 @@ detached_destroyed z number turns slot inside x m y learned is = omega (arith, f
 pub once_more : (n : ℕ) (a b c : List LogItem) → n ≤ frees_in a → IsPrefix a b → frees_in b < frees_in c → n + 1 ≤ frees_in c
 once_more n a b c few grows more = omega (arith, few, frees_grow a b grows, more)
 
--- the driver besides
-pub freed_besides : (z : Settings) (last : List ℕ) (n : ℕ) (a b : List LogItem) → n ≤ frees_in a → frees_in a < frees_in b → HasFreed z last (frees_in b) → HasFreed z last (n + 1)
-freed_besides z last n a b few more is = record { parts = is.parts; cpus = is.cpus; all = is.all; run = is.run; times = let times = is.times in omega (arith, few, more, times) }
+-- the driver besides: by what the close says of any number
+pub freed_besides : (z : Settings) (last : List ℕ) (n : ℕ) (x y o : OnCpu) → Accounts 0 x → MakesAtMost (2 * n + 1) x y → MakesAtMost 1 y o → n ≤ frees_in y.known_log → frees_in y.known_log < frees_in o.known_log
+    → ((k : ℕ) → Accounts (2 * k) o → k ≤ frees_in o.known_log → HasFreed z last k) → HasFreed z last (n + 1)
+freed_besides z last n x y o new loop unload few more closes =
+    closes (n + 1) (subst (λ (k : ℕ). Accounts k o) (omega arith) (unload.more (0 + (2 * n + 1)) (loop.more 0 new))) (omega (arith, few, more))
 
 pub some_freed : (z : Settings) (last : List ℕ) (n : ℕ) → HasFreed z last n → SomeFreed n
 some_freed z last n is = record { settings = z; last = last; freed = is }

@@ -1,1 +1,4 @@
 pub mod Frees
+pub mod Bound
+pub mod Accounted
+pub mod Closed

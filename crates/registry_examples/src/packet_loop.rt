@@ -2,13 +2,13 @@
 //! and plugs it in again. At the end the driver goes, and the registry is closed. What its last words say of the driver, and how often a
 //! slot was freed, is proved by what holds of every run that has ended.
 
-ghost use Rattle.std.specs.Prelude.{◌≡◌, ◌≢◌, ◌<◌, ◌≤◌, ◌+◌, IfOk, IsTrue, None, length, slice_index};
+ghost use Rattle.std.specs.Prelude.{◌≡◌, ◌≢◌, ◌<◌, ◌≤◌, ◌+◌, ◌*◌, ℕ, IfOk, IsTrue, None, length, slice_index};
 ghost use mathlib.Core.List.{IsPrefix};
 ghost use Rattle.std.specs.Thread.{IsSync};
 ghost use Rattle.cpu_words.specs.Common.{IsFreedFrom, index, live_of};
 ghost use Rattle.registry_values.specs.Common.{is_key};
-ghost use Rattle.name_registry.specs.Common.{IsBlankOf};
-ghost use Rattle.registry_examples.specs.{HasFreed, frees_in};
+ghost use Rattle.name_registry.specs.Common.{IsBlankOf, made_by};
+ghost use Rattle.registry_examples.specs.{Accounts, HasFreed, MakesAtMost, MakesNone, frees_in, made_in};
 
 use crate::failure::Failure;
 use cpu_words::{Domain, LastWords};
@@ -63,6 +63,9 @@ struct Bus<'a, D: Domain> {
 #[derive(Clone, Copy)]
 struct Tally([u64; 9]);
 
+/// What a carrier has counted, with its CPU.
+type Carried<D> = Result<(Tally, Cpu<D>), Failure>;
+
 /// Runs the loop on a registry of its own. Returns what it did, and the last words of the registry: they are those of a run in which a slot
 /// was freed as often as the sum says, and the driver's once.
 pub fn run_packet_loop<R: Threads + Wait + Sync>(
@@ -84,7 +87,7 @@ pub fn run_packet_loop<R: Threads + Wait + Sync>(
 }
 
 /// The same, on this registry. D names it, so that its CPUs and references can't be taken for another's.
-#[tactic(auto, using(crate::proofs::Frees::freed_besides))]
+#[tactic(auto, using(crate::proofs::Frees::freed_besides, crate::proofs::Accounted::new_made))]
 fn run_on<D: Domain + Send + Sync, R: Threads + Wait + Sync>(
     rt: &R,
     alloc: Global,
@@ -113,7 +116,9 @@ fn run_bus<D: Domain + Send + Sync, R: Threads + Wait + Sync>(
     carriers: Vec<Cpu<D>>,
 ) -> Result<(PacketSum, Cpu<D>, Vec<Cpu<D>>), Failure>
     ensures freed { IfOk result (λ ran. ran.0.freed ≤ frees_in ran.1.known_log) }
+    ensures made { IfOk result (λ ran. MakesAtMost (2 * ran.0.freed + 1) cpu ran.1) }
     ensures all { IfOk result (λ ran. length ran.2.items ≡ length carriers.items) }
+    ensures others { IfOk result (λ ran. made_by ran.2.items ≤ made_by carriers.items) }
 {
     let bus = Bus::new(registry)?;
     bus.load_driver(rt, &mut cpu)?;
@@ -130,6 +135,7 @@ fn unload_driver<D: Domain, R: Wait>(
     ensures slot { IfOk result (λ gone. gone.0 < D.settings.slots) }
     ensures gone { IfOk result (λ gone. IsFreedFrom gone.0 gone.1 cpu.new.known_log) }
     ensures freed { IfOk result (λ _. frees_in cpu.old.known_log < frees_in cpu.new.known_log) }
+    ensures made { IfOk result (λ _. MakesAtMost 1 cpu.old cpu.new) }
 {
     let driver = registry.detach(rt, cpu, Kind::Driver, &Name::parse(b"wm")?)?;
     let slot = registry.destroy(rt, cpu, driver.number, u32::MAX)?;
@@ -137,8 +143,8 @@ fn unload_driver<D: Domain, R: Wait>(
 }
 
 /// Ends the registry with all its CPUs, and returns its last words. One list of events of all threads led to them, on any schedule: what each CPU
-/// did is in it. So the live word of the driver's slot isn't the driver's number, a slot was freed at least as often as the CPU knows, and none while
-/// any CPU held its entry.
+/// did is in it. So the live word of the driver's slot isn't the driver's number, and no slot was freed while any CPU held its entry. If the other
+/// CPUs changed nothing, and the CPU knows of a free for each two changes that its calls made, a slot was freed as often as that.
 fn close<D: Domain>(
     registry: Registry<D>,
     cpu: Cpu<D>,
@@ -146,10 +152,11 @@ fn close<D: Domain>(
     driver: (u8, u64),
 ) -> Result<LastWords, Failure>
     requires all { length carriers.items + 1 ≡ D.parts }
+    requires others { made_by carriers.items ≡ 0 }
     requires slot { driver.0 < D.settings.slots }
     requires gone { IsFreedFrom driver.0 driver.1 cpu.known_log }
     ensures gone { IfOk result (λ last. slice_index last.words (index last.settings (live_of driver.0)) ≢ driver.1) }
-    ensures ran { IfOk result (λ last. HasFreed last.settings last.words (frees_in cpu.known_log)) }
+    ensures ran { IfOk result (λ last. (n : ℕ) → Accounts (2 * n) cpu → n ≤ frees_in cpu.known_log → HasFreed last.settings last.words n) }
 {
     // The contract alone speaks of the driver.
     let _driver = driver;
@@ -168,12 +175,18 @@ fn carry_and_plug<D: Domain + Send + Sync, R: Threads + Wait + Sync>(
     carriers: Vec<Cpu<D>>,
 ) -> Result<(PacketSum, Cpu<D>, Vec<Cpu<D>>), Failure>
     ensures freed { IfOk result (λ ran. ran.0.freed ≤ frees_in ran.1.known_log) }
+    ensures made { IfOk result (λ ran. MakesAtMost (2 * ran.0.freed) cpu ran.1) }
     ensures all { IfOk result (λ ran. length ran.2.items ≡ length carriers.items) }
+    ensures others { IfOk result (λ ran. made_by ran.2.items ≤ made_by carriers.items) }
 {
     let (plugged, carried) = join(
         rt,
         || bus.plug_all(rt, cpu),
-        || map_vec(rt, carriers, &|carrier: Cpu<D>| bus.carry_all(carrier)),
+        || -> Result<Vec<Carried<D>>, AllocError>
+            requires { IsSync R.row }
+            ensures all { IfOk result (λ back. length back.items ≡ length carriers.items) }
+            ensures made { IfOk result (λ back. made_in back.items ≤ made_by carriers.items) }
+        { carry_on_all(rt, bus, carriers) },
     );
     let (freed, cpu) = plugged?;
     let (counted, carriers) = all_counted(alloc, carried?)?;
@@ -185,12 +198,32 @@ fn carry_and_plug<D: Domain + Send + Sync, R: Threads + Wait + Sync>(
     Ok((sum, cpu, carriers))
 }
 
+/// Each carrier on a thread of its own. Returns what each one has counted, in their order, with its CPU.
+fn carry_on_all<D: Domain + Send + Sync, R: Threads + Sync>(
+    rt: &R,
+    bus: &Bus<D>,
+    carriers: Vec<Cpu<D>>,
+) -> Result<Vec<Carried<D>>, AllocError>
+    ensures all { IfOk result (λ back. length back.items ≡ length carriers.items) }
+    ensures made { IfOk result (λ back. made_in back.items ≤ made_by carriers.items) }
+{
+    map_vec(
+        rt,
+        carriers,
+        &|carrier: Cpu<D>| -> Carried<D>
+            ensures { IfOk result (λ back. back.1.made ≡ carrier.made) }
+        { bus.carry_all(carrier) },
+    )
+}
+
 /// The packets that all carriers have counted, and their CPUs.
+#[tactic(auto, using(crate::proofs::Accounted::counted_more))]
 fn all_counted<D: Domain>(
     alloc: Global,
-    carried: Vec<Result<(Tally, Cpu<D>), Failure>>,
+    carried: Vec<Carried<D>>,
 ) -> Result<(u64, Vec<Cpu<D>>), Failure>
     ensures all { IfOk result (λ all. length all.1.items ≡ length carried.items) }
+    ensures made { IfOk result (λ all. made_by all.1.items ≡ made_in carried.items) }
 {
     let mut counted = 0u64;
     let mut cpus = Vec::new(alloc);
@@ -216,7 +249,9 @@ impl<'a, D: Domain> Bus<'a, D> {
     }
 
     /// All batches of a CPU, which comes back.
-    fn carry_all(&self, mut cpu: Cpu<D>) -> Result<(Tally, Cpu<D>), Failure> {
+    fn carry_all(&self, mut cpu: Cpu<D>) -> Carried<D>
+        ensures made { IfOk result (λ back. back.1.made ≡ cpu.made) }
+    {
         let mut tally = Tally([0; 9]);
         for _ in 0..BATCHES {
             self.carry_batch(&mut cpu, &mut tally)?;
@@ -226,7 +261,10 @@ impl<'a, D: Domain> Bus<'a, D> {
     }
 
     /// One batch: one section with thirty-two lookups in it. The last packet has to wait, so it takes a passive reference along.
-    fn carry_batch(&self, cpu: &mut Cpu<D>, tally: &mut Tally) -> Result<(), Failure> {
+    #[tactic(auto, using(crate::proofs::Accounted::enter_made, crate::proofs::Accounted::acquire_made))]
+    fn carry_batch(&self, cpu: &mut Cpu<D>, tally: &mut Tally) -> Result<(), Failure>
+        ensures made { IfOk result (λ _. cpu.new.made ≡ cpu.old.made) }
+    {
         let words = self.registry.words();
         enter(words, cpu)?;
         let last = self.look_up_all(cpu, tally);
@@ -244,6 +282,7 @@ impl<'a, D: Domain> Bus<'a, D> {
     fn look_up_all(&self, cpu: &mut Cpu<D>, tally: &mut Tally) -> Option<Entry>
         requires inside { cpu.old.view.begin ≢ None }
         ensures inside { cpu.new.view.begin ≢ None }
+        ensures made { cpu.new.made ≡ cpu.old.made }
     {
         let mut last = None;
         for _ in 0..BATCH {
@@ -255,12 +294,10 @@ impl<'a, D: Domain> Bus<'a, D> {
 
     /// A packet that had to wait outside of any section: by now the interface may be pulled out, but its record is still there, since the
     /// reference holds it. The reference goes back to the CPU that acquired it.
-    fn send_late(
-        &self,
-        cpu: &mut Cpu<D>,
-        psref: Psref,
-        found: Option<Entry>,
-    ) -> Result<(), Failure> {
+    #[tactic(auto, using(crate::proofs::Accounted::read_made, crate::proofs::Accounted::release_made))]
+    fn send_late(&self, cpu: &mut Cpu<D>, psref: Psref, found: Option<Entry>) -> Result<(), Failure>
+        ensures made { IfOk result (λ _. cpu.new.made ≡ cpu.old.made) }
+    {
         yield_now();
         let words = self.registry.words();
         let rec = read(words, cpu, &psref);
@@ -276,7 +313,9 @@ impl<'a, D: Domain> Bus<'a, D> {
     }
 
     /// Attaches the driver.
-    fn load_driver<R: Wait>(&self, rt: &R, cpu: &mut Cpu<D>) -> Result<(), Failure> {
+    fn load_driver<R: Wait>(&self, rt: &R, cpu: &mut Cpu<D>) -> Result<(), Failure>
+        ensures made { IfOk result (λ _. MakesAtMost 1 cpu.old cpu.new) }
+    {
         let rec = Record {
             kind: Kind::Driver,
             name: self.driver,
@@ -287,9 +326,10 @@ impl<'a, D: Domain> Bus<'a, D> {
     }
 
     /// Attaches the interface and detaches it, again and again. Returns how often its slot was freed, and the CPU, which knows of each time.
-    #[tactic(auto, using(crate::proofs::Frees::once_more))]
+    #[tactic(auto, using(crate::proofs::Accounted::makes_zero))]
     fn plug_all<R: Wait>(&self, rt: &R, mut cpu: Cpu<D>) -> Result<(u64, Cpu<D>), Failure>
         ensures freed { IfOk result (λ freed. freed.0 ≤ frees_in freed.1.known_log) }
+        ensures made { IfOk result (λ freed. MakesAtMost (2 * freed.0) cpu freed.1) }
     {
         for plug in 0..PLUGS {
             self.plug_in(rt, &mut cpu, plug + 1)?;
@@ -302,6 +342,7 @@ impl<'a, D: Domain> Bus<'a, D> {
     /// Attaches the interface. Its slot keeps a reference to the driver, which can't go before it.
     fn plug_in<R: Wait>(&self, rt: &R, cpu: &mut Cpu<D>, value: u64) -> Result<(), Failure>
         ensures known { IfOk result (λ _. IsPrefix cpu.old.known_log cpu.new.known_log) }
+        ensures made { IfOk result (λ _. MakesAtMost 1 cpu.old cpu.new) }
     {
         let driver = self.take_driver(cpu)?;
         let rec = Record {
@@ -321,6 +362,7 @@ impl<'a, D: Domain> Bus<'a, D> {
     /// Acquires a local reference to the driver, in a section of its own.
     fn take_driver(&self, cpu: &mut Cpu<D>) -> Result<LocalRef<D>, Failure>
         ensures known { IfOk result (λ _. cpu.new.known_log ≡ cpu.old.known_log) }
+        ensures none { IfOk result (λ _. MakesNone cpu.old cpu.new) }
     {
         let words = self.registry.words();
         enter(words, cpu)?;
@@ -334,6 +376,7 @@ impl<'a, D: Domain> Bus<'a, D> {
     #[tactic(auto, using(crate::proofs::Frees::detached_destroyed))]
     fn pull_out<R: Wait>(&self, rt: &R, cpu: &mut Cpu<D>) -> Result<(), Failure>
         ensures freed { IfOk result (λ _. frees_in cpu.old.known_log < frees_in cpu.new.known_log) }
+        ensures made { IfOk result (λ _. MakesAtMost 1 cpu.old cpu.new) }
     {
         let entry = self.registry.detach(rt, cpu, Kind::Iface, &self.iface)?;
         self.registry.destroy(rt, cpu, entry.number, u32::MAX)?;
