@@ -159,10 +159,20 @@ static double timed_replaces(unsigned thread, unsigned changers)
     return took;
 }
 
+/* All threads wait for each other. */
+static void meet(unsigned thread)
+{
+    if (chosen_one->idle != NULL)
+        chosen_one->idle(thread, true);
+    pthread_barrier_wait(&all_here);
+    if (chosen_one->idle != NULL)
+        chosen_one->idle(thread, false);
+}
+
 /* The first threads replace at once, the others wait. */
 static double timed_changers(unsigned thread, unsigned changers)
 {
-    pthread_barrier_wait(&all_here);
+    meet(thread);
     const bool can = chosen_one->replace != NULL && threads >= changers && (changers == 1 || !chosen_one->has_one_changer);
     return can && thread < changers ? timed_replaces(thread, changers) : 0;
 }
@@ -171,7 +181,7 @@ static double timed_changers(unsigned thread, unsigned changers)
 static double timed_beside_readers(unsigned thread)
 {
     double took = 0;
-    pthread_barrier_wait(&all_here);
+    meet(thread);
     if (thread == 0 && chosen_one->replace != NULL)
         took = timed_replaces(thread, 1);
     if (thread == 0)
@@ -184,7 +194,7 @@ static double timed_beside_readers(unsigned thread)
 
 static double timed_lookups(unsigned thread, const struct name *row, bool are_there, uint64_t times)
 {
-    pthread_barrier_wait(&all_here);
+    meet(thread);
     return timed(thread, row, are_there, times);
 }
 

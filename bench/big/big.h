@@ -36,6 +36,8 @@ struct contender {
     /* Puts an item in the place of that of its name, waits until nobody uses the old one, and returns that. NULL: it can't. */
     struct item *(*replace)(unsigned thread, struct item *item);
     bool has_one_changer; /* at a time */
+    /* Before and after a wait for other threads. NULL: nothing has to be told. */
+    void (*idle)(unsigned thread, bool is_idle);
 };
 
 extern const struct contender bare_hit, bare_list, ours_look_up, ours_get, ours_roomy, ours_small, urcu_lfht, ck_table, locked, dpdk_hash;

@@ -66,4 +66,13 @@ static struct item *replace(unsigned thread, struct item *item)
     return old;
 }
 
-const struct contender dpdk_hash = {"rte_hash", open_table, begin, end, add, find, replace, true};
+/* A thread that waits would keep a replacement waiting. */
+static void idle(unsigned thread, bool is_idle)
+{
+    if (is_idle)
+        rte_rcu_qsbr_thread_offline(state, thread);
+    else
+        rte_rcu_qsbr_thread_online(state, thread);
+}
+
+const struct contender dpdk_hash = {"rte_hash", open_table, begin, end, add, find, replace, true, idle};
