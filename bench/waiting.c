@@ -85,7 +85,7 @@ static void *run_reader(void *argument)
     return NULL;
 }
 
-/* Starts the threads, each like `one` but for its number. Each reader keeps its times where there is a place for them. */
+/* Starts the threads, each like `one` except its number. Each reader keeps its times where there is a place for them. */
 static void start(struct reader *all, struct reader one, unsigned threads, unsigned readers, struct times *times)
 {
     atomic_store(&come, 0);

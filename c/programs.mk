@@ -26,7 +26,7 @@ PROGRAMS_x86_64 = recalls
 BENCH = bench
 BENCHED = $(if $(wildcard $(BENCH)/common.c),speed changes)
 # In the checking build, too, which says nothing of them.
-CHECKING = smallest walk packet shared forwarder device_switch together
+CHECKING = smallest walk packet shared forwarder device_switch together table table_model
 
 all: $(PROGRAMS:%=$(OUT)/%) $(OUT)/checked $(CHECKING:%=$(OUT)/checked-%)
 
@@ -43,6 +43,7 @@ $(addprefix $(OUT)/,history allocs): LINK = $(WRAP)
 $(OUT)/deferred: LINK = -Wl,--wrap=kupaldiz_destroy
 $(addprefix $(OUT)/,shared forwarder device_switch turns speed $(OVER_WAITING)): $(WAITING) c/include/kupaldiz_waiting.h
 $(foreach way,$(OUT)/ $(OUT)/sanitized- $(OUT)/raced-,$(addprefix $(way),$(OVER_TABLE))): $(TABLE)
+$(foreach way,$(OUT)/ $(OUT)/sanitized-,$(way)table_choice $(way)table_calls): c/tests/both_forms.h c/tests/wrapped_heap.h
 $(OUT)/table_choice $(OUT)/sanitized-table_choice: LINK = -Wl,--wrap=getrandom
 $(OUT)/table_calls $(OUT)/sanitized-table_calls: LINK = -Wl,--wrap=getrandom,--wrap=malloc,--wrap=calloc,--wrap=aligned_alloc,--wrap=pthread_key_create,--wrap=pthread_setspecific
 $(OUT)/forwarder $(OUT)/device_switch: c/examples/workers.h
@@ -67,6 +68,7 @@ $(PROGRAMS:%=$(OUT)/%): $(SHARED_HEADERS) $(FACE) $(ARCHIVE) | $(OUT)
 $(OUT)/checked: c/tests/checked.c c/tests/child.h c/tests/wrapped_heap.h
 $(OUT)/checked: LINK = -Wl,--wrap=kupaldiz_find
 $(CHECKING:%=$(OUT)/checked-%): $(OUT)/checked-%: %.c
+$(addprefix $(OUT)/,checked checked-table checked-table_model): c/src/check_table.c $(TABLE)
 
 $(OUT)/checked $(CHECKING:%=$(OUT)/checked-%): c/src/check.c c/src/records.h $(MADE_OF_CALLS) $(WAITING) c/include/kupaldiz_waiting.h $(SHARED_HEADERS) c/examples/workers.h $(FACE) $(ARCHIVE) | $(OUT)
 	$(CC) $(STRICT) $(CPPFLAGS) $(CFLAGS) -DKUPALDIZ_CHECK $(INCLUDES) $(LDFLAGS) -o $@ $(filter %.c,$^) $(ARCHIVE) -pthread $(LINK)

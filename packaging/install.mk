@@ -72,17 +72,18 @@ LINKED = $(filter-out -flto%,$(CFLAGS)) $(LDFLAGS) -shared $(LINK_HARDENING) -Wl
 library: $(OUT)/libkupaldiz.a $(OUT)/$(SHARED) $(OUT)/libkupaldiz_check.a $(OUT)/libkupaldiz_netbsd.a $(OUT)/$(NETBSD_SHARED)
 
 WAITING_OBJECTS = $(patsubst c/src/waiting/%.c,$(OUT)/installed-waiting/%.o,$(wildcard c/src/waiting/*.c))
-CHECKED_OBJECTS = $(WAITING_OBJECTS:$(OUT)/installed-waiting/%=$(OUT)/installed-check/%)
+CHECKED_OBJECTS = $(WAITING_OBJECTS:$(OUT)/installed-waiting/%=$(OUT)/installed-check/%) $(TABLE_OBJECTS:$(OUT)/installed-table/%=$(OUT)/installed-check/table/%) \
+    $(OUT)/installed-check/check.o $(OUT)/installed-check/check_table.o
 WAITING_MADE_OF = $(wildcard c/src/waiting/*.h) c/include/kupaldiz_waiting.h $(FACE) packaging/places.mk packaging/install.mk
 
 $(WAITING_OBJECTS): $(OUT)/installed-waiting/%.o: c/src/waiting/%.c $(WAITING_MADE_OF) | $(OUT)
 	mkdir -p $(@D)
 	$(CC) $(COMPILED) -Ic/include -c -o $@ $<
 
-# The checking build has none of it: it is over the calls themselves.
 TABLE_OBJECTS = $(patsubst c/src/table/%.c,$(OUT)/installed-table/%.o,$(wildcard c/src/table/*.c))
+TABLE_MADE_OF = $(wildcard c/src/table/*.h) c/include/kupaldiz_table.h $(WAITING_MADE_OF)
 
-$(TABLE_OBJECTS): $(OUT)/installed-table/%.o: c/src/table/%.c $(wildcard c/src/table/*.h) c/include/kupaldiz_table.h $(WAITING_MADE_OF) | $(OUT)
+$(TABLE_OBJECTS): $(OUT)/installed-table/%.o: c/src/table/%.c $(TABLE_MADE_OF) | $(OUT)
 	mkdir -p $(@D)
 	$(CC) $(COMPILED) -Ic/include -c -o $@ $<
 
@@ -92,15 +93,17 @@ $(OUT)/libkupaldiz.a: $(ARCHIVE) $(WAITING_OBJECTS) $(TABLE_OBJECTS)
 	cd $(OUT)/installed-archive && $(AR) x $(if $(filter /%,$(ARCHIVE)),$(ARCHIVE),"$$OLDPWD"/$(ARCHIVE))
 	$(AR) rcsD $@ $(OUT)/installed-archive/*.o $(WAITING_OBJECTS) $(TABLE_OBJECTS)
 
-# The calls that wait are in it once more, by names of their own: these are told, too.
-$(CHECKED_OBJECTS): $(OUT)/installed-check/%.o: c/src/waiting/%.c
+# The calls that wait, and those of tables, are in it once more, by names of their own: these are told, too.
+$(WAITING_OBJECTS:$(OUT)/installed-waiting/%=$(OUT)/installed-check/%): $(OUT)/installed-check/%.o: c/src/waiting/%.c
+$(TABLE_OBJECTS:$(OUT)/installed-table/%=$(OUT)/installed-check/table/%): $(OUT)/installed-check/table/%.o: c/src/table/%.c
 $(OUT)/installed-check/check.o: c/src/check.c
 $(OUT)/installed-check/check.o: c/src/records.h
-$(CHECKED_OBJECTS) $(OUT)/installed-check/check.o: $(MADE_OF_CALLS) $(WAITING_MADE_OF) | $(OUT)
+$(OUT)/installed-check/check_table.o: c/src/check_table.c
+$(CHECKED_OBJECTS): $(MADE_OF_CALLS) $(TABLE_MADE_OF) | $(OUT)
 	mkdir -p $(@D)
 	$(CC) $(COMPILED) -DKUPALDIZ_CHECK -Ic/include -I$(MADE_HEADERS) -c -o $@ $(filter %.c,$^)
 
-$(OUT)/libkupaldiz_check.a: $(OUT)/installed-check/check.o $(CHECKED_OBJECTS)
+$(OUT)/libkupaldiz_check.a: $(CHECKED_OBJECTS)
 	rm -f $@
 	$(AR) rcsD $@ $^
 

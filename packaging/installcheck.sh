@@ -2,7 +2,6 @@
 # Builds programs over the libraries as they are installed, shared and static, in C and, if there is g++ beside gcc, in C++, with the words of pkg-config alone,
 # and runs them. `make installcheck` calls it: installcheck.sh DESTDIR LIBDIR VERSION. CC is the compiler, RUN what runs a program of another processor. The
 # last line is 'N passed, M failed'.
-set -uo pipefail
 if [ $# -eq 2 ]; then
     set -- "" "$@"
 fi
@@ -12,35 +11,27 @@ if [ $# -ne 3 ]; then
 fi
 stage=$1 libdir=$2 version=$3
 cd "$(dirname "$0")/.." || exit
+. packaging/scenario.sh
 for needed in "${CC%% *}" pkg-config; do
     if ! command -v "$needed" >/dev/null; then
         echo "installcheck: there is no $needed: apt-get install ${needed/%gcc/gcc make}" >&2
         exit 2
     fi
 done
-if [ ! -f "$stage$libdir/pkgconfig/kupaldiz.pc" ]; then
-    echo "installcheck: there is no $stage$libdir/pkgconfig/kupaldiz.pc: make install with the same words puts it there" >&2
-    exit 2
-fi
+need "$stage$libdir/pkgconfig/kupaldiz.pc" "make install with the same words puts it there"
 export PKG_CONFIG_PATH=$stage$libdir/pkgconfig${PKG_CONFIG_PATH:+:$PKG_CONFIG_PATH} PKG_CONFIG_SYSROOT_DIR=$stage
 export LD_LIBRARY_PATH=$stage$libdir${LD_LIBRARY_PATH:+:$LD_LIBRARY_PATH}
-room=$(mktemp -d)
-trap 'rm -rf "$room"' EXIT
-passed=0 failed=0
 
-# try COMPILER MODULE PROGRAM LINE LINK WORDS..: builds the program with what pkg-config says for these words, and runs it: it prints the line.
+# says COMPILER MODULE PROGRAM LINE LINK WORDS..: the program is built with what pkg-config says for these words, and prints the line.
+says() {
+    local words said
+    words=$(pkg-config --cflags "$2") && words+=" $(pkg-config "${@:6}" "$2")" &&
+        eval "$1 -Wall -Wextra c/tests/$3.c -x none -o \"\$room/$3\" $5 $words" && said=$($RUN "$room/$3") && [ "$said" = "$4" ] ||
+        { echo "it says: ${said-not built}"; return 1; }
+}
+
 try() {
-    local compiler=$1 module=$2 program=$3 line=$4 link=$5 words said
-    shift 5
-    if words=$(pkg-config --cflags "$module") && words+=" $(pkg-config "$@" "$module")" &&
-        eval "$compiler -Wall -Wextra c/tests/$program.c -x none -o \"\$room/$program\" $link $words" &&
-        said=$($RUN "$room/$program") && [ "$said" = "$line" ]; then
-        passed=$((passed + 1))
-        echo "ok      $module, $*: $said"
-    else
-        failed=$((failed + 1))
-        echo "FAILED  $module, $*: ${said-not built}"
-    fi
+    check "$2, ${*:6}: $4" says "$@"
 }
 
 # try_all MODULE PROGRAM LINE: each program in both languages, over the shared library and the static one.
@@ -68,5 +59,4 @@ try_all kupaldiz-netbsd installed_netbsd "by the pages' names"
 if [ -f "$stage$libdir/pkgconfig/kupaldiz-explorer.pc" ]; then
     try_all kupaldiz-explorer installed_explorer "in every order"
 fi
-echo "$passed passed, $failed failed"
-[ "$failed" -eq 0 ]
+finish

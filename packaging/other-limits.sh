@@ -3,30 +3,14 @@
 # With other CPUs or slots, or another version, it doesn't link, and doesn't start with a shared library of the archive: what is said then names these. With
 # another of the rest kupaldiz_open refuses it. CC is
 # the compiler, RUN what runs a program of another processor. `make check` calls it. The last line is 'N passed, M failed'.
-set -uo pipefail
 if [ $# -ne 2 ]; then
     echo "usage: other-limits.sh HEADERS ARCHIVE" >&2
     exit 2
 fi
 headers=$(realpath "$1") archive=$(realpath "$2")
 cd "$(dirname "$0")/.." || exit
-room=$(mktemp -d)
-trap 'rm -rf "$room"' EXIT
-passed=0 failed=0 refused="78: the program was compiled for other limits than the library's"
-
-# check NAME COMMAND..: the command ends with status 0; else what it said is shown.
-check() {
-    local name=$1
-    shift
-    if "$@" >"$room/said" 2>&1; then
-        passed=$((passed + 1))
-        echo "ok      $name"
-    else
-        failed=$((failed + 1))
-        echo "FAILED  $name"
-        cat "$room/said"
-    fi
-}
+. packaging/scenario.sh
+refused="78: the program was compiled for other limits than the library's"
 
 # What the header says of a limit.
 limit() {
@@ -140,5 +124,4 @@ for limit in CPUS SLOTS VERSION; do
 done
 check "other CPUS: the shared library has another name" has_soname
 check "other CPUS under the name of this build: kupaldiz_open refuses it" forged
-echo "$passed passed, $failed failed"
-[ "$failed" -eq 0 ]
+finish

@@ -41,7 +41,7 @@ $(shell $(TOP)netbsd/named.sh)
 IN_REPOSITORY := $(wildcard $(TOP)tools/call-headers.py)
 MADE_HEADERS := $(TOP)$(if $(IN_REPOSITORY),out/made/c,c/include)
 MADE_PAGES := $(TOP)$(if $(IN_REPOSITORY),out/made/man,man)
-MADE_OF_CALLS = $(addprefix $(MADE_HEADERS)/,kupaldiz_check.h kupaldiz_tsan.h texts.h checked.h)
+MADE_OF_CALLS = $(addprefix $(MADE_HEADERS)/,kupaldiz_check.h kupaldiz_tsan.h texts.h checked.h checked_table.h)
 ifneq ($(IN_REPOSITORY),)
 $(if $(shell find $(TOP)tools/call-headers.py $(TOP)tools/header-pages.py $(HEADER)/kupaldiz.h $(TOP)c/include/*.in $(TOP)c/include/kupaldiz_waiting.h $(TOP)c/include/kupaldiz_table.h \
     -newer $(MADE_HEADERS)/checked.h 2>&1),$(shell $(TOP)tools/call-headers.py make))

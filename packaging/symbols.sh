@@ -66,10 +66,10 @@ same kupaldiz.map "$(in_maps <<<"$calls")" "$(mapped packaging/kupaldiz.map)"
 same libkupaldiz.so "$calls" "$(shared "$out/libkupaldiz$suffix")"
 same "the nodes of libkupaldiz.so" "$(in_nodes packaging/kupaldiz.map)" "$(shown_in_nodes "$out/libkupaldiz$suffix")"
 same libkupaldiz.a "$calls" "$(static "$out/libkupaldiz.a")"
-# The checking build has each call that takes a handle of a registry, all of kupaldiz_waiting.h and none of kupaldiz_table.h; of those that wait it has what is within by other names.
-others='kupaldiz_(for_.*|name_.*|table_.*|id_of_name|strerror|version|limits)'
+# The checking build has each call that takes a handle of a registry, and all of kupaldiz_waiting.h and kupaldiz_table.h; of these it has what is within by other names.
+others='kupaldiz_(for_.*|name_.*|id_of_name|strerror|version|limits)'
 same kupaldiz_check.h "$(grep -vxE "$others" <<<"$calls")" "$(sed -nE 's/^#define (kupaldiz_[a-z_]+)\(.*/\1/p' "$made/kupaldiz_check.h" | grep -vx kupaldiz_check_interlock | sort)"
-inner=$(packaging/calls-of.sh c/include/kupaldiz_waiting.h | sed 's/^kupaldiz_/kupaldiz_inner_/')
+inner=$(packaging/calls-of.sh c/include/kupaldiz_{waiting,table}.h | sed 's/^kupaldiz_/kupaldiz_inner_/')
 same libkupaldiz_check.a "$({ packaging/calls-of.sh "$made/kupaldiz_check.h"; echo "$inner"; } | sort)" "$(static "$out/libkupaldiz_check.a")"
 # With the pages' names the explorer has three calls more, its own, and those that the compiler makes with -fsanitize=thread.
 pages=$({ packaging/calls-of.sh netbsd/include/kupaldiz/*.h; echo 'kupaldiz_for_*'; } | with_prefix)

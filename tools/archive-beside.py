@@ -1,5 +1,5 @@
 #!/usr/bin/env -S python3 -B
-"""Runs `rt ci`, and on the processors that it leaves idle proves and builds the archive for C, proves its library for aarch64, and tries edits.
+"""Runs `rt ci`, and on the processors that it leaves idle proves and builds the archive for C, and proves its library for aarch64.
 
     tools/archive-beside.py rt ci
 
@@ -7,9 +7,6 @@
 compiles registry_c over these, for one processor after the other. tools/build-archive.sh makes the archive of the first; where the proof failed, as for
 want of memory, it proves once more. The library for another processor is left in out/PROCESSOR, with what the proof said, for tools/build-archive.sh --for
 PROCESSOR, which proves it where it isn't there. The last line is that of `rt ci`, with a check more for the archive.
-
-Where there are four processors or more, `rt ci` gets all but one. On that one tools/edits.py tries the gate's edits of each crate that was proved, and of
-none more once `rt ci` has ended. It keeps what is refused, and the gate tries the others afterwards.
 """
 import os
 import pathlib
@@ -21,11 +18,9 @@ import tempfile
 import time
 from concurrent.futures import ThreadPoolExecutor
 
-from edits import BESIDE
+from checks import GIGABYTE, LAST_LINE, ROOT, ended, free_memory
 from kit import below, kit, over_libraries
 from limits import LIMITS
-from checks import GIGABYTE, LAST_LINE, ROOT, ended, free_memory
-from wrong import GATE, edits_of
 
 LIBRARY = "registry_c"
 OUT = ROOT / "out"
@@ -34,12 +29,9 @@ PROCESSORS = {"x86_64": (), "aarch64": ("--target", "aarch64-unknown-linux-gnu")
 FIRST, *OTHERS = PROCESSORS
 # What a proof of the archive keeps for the next one in this copy of the repository.
 KEPT = OUT / "proof"
-STANDS = re.compile(r"^rt: (\w+) (proved$|is kept: )")
+STANDS = re.compile(r"^rt: (\w+) (?:proved$|is kept: )")
 # A check of the library takes at most this; it waits until so much is free.
 NEEDS = 2 * GIGABYTE
-NICE = ["nice", "-n", "10"]
-# With so many processors or more `rt ci` leaves one to edits.
-MANY = 4
 
 
 def build(processor, room, began):
@@ -48,7 +40,7 @@ def build(processor, room, began):
         time.sleep(1)
     log, made = room / f"{processor}.log", room / processor / f"lib{LIBRARY}.a"
     made.parent.mkdir()
-    words = [*NICE, kit() / "bin/rattle", "build", *over_libraries(LIBRARY, room), "--jobs", "1", *PROCESSORS[processor]]
+    words = ["nice", "-n", "10", kit() / "bin/rattle", "build", *over_libraries(LIBRARY, room), "--jobs", "1", *PROCESSORS[processor]]
     words += ["--incremental", KEPT, "--toolchain", kit() / "toolchain", "--backend", "llvm", "-o", made]
     with open(log, "wb", buffering=0) as said:
         said.write(began)
@@ -67,25 +59,15 @@ def prove(room, began):
     return [processor for processor in PROCESSORS if build(processor, room, began)]
 
 
-def try_edits(edits, processor):
-    """Tries these on the processor, and adds what is said of them to what is known."""
-    with BESIDE.open("a") as said:
-        words = [*NICE, "taskset", "-c", str(processor), "tools/edits.py", *map(str, edits)]
-        subprocess.run(words, cwd=ROOT, stdin=subprocess.DEVNULL, stdout=said, stderr=subprocess.DEVNULL)
-
-
-def follow(command, proved, may_prove):
-    """Runs the command. Calls `proved` with each crate that it proves, and `may_prove` once all beneath the library are; the last line, and the status."""
+def follow(command, may_prove):
+    """Runs the command, and calls `may_prove` once all beneath the library are proved; the last line, and the status."""
     waits, held = set(below(LIBRARY)), ""
     with subprocess.Popen(command, cwd=ROOT, stdin=subprocess.DEVNULL, stdout=subprocess.PIPE, text=True, errors="replace") as ran:
         for line in ran.stdout:
             print(held, end="", flush=True)
             held = line
-            if stands := STANDS.match(line):
-                if stands[2] == "proved":
-                    proved(stands[1])
-                if waits and not (waits := waits - {stands[1]}):
-                    may_prove()
+            if waits and (stands := STANDS.match(line)) and not (waits := waits - {stands[1]}):
+                may_prove()
         return held, ran.wait()
 
 
@@ -99,27 +81,17 @@ def archive(proved, room):
     return subprocess.run(["tools/build-archive.sh", *made], cwd=ROOT).returncode == 0
 
 
-def main():
-    command = sys.argv[1:]
+def main(*command):
     if not command:
         sys.exit(__doc__)
-    for path in (BESIDE, OUT / "libkupaldiz_proved.a", *(OUT / it / f"lib{LIBRARY}.a" for it in OTHERS)):
+    for path in (OUT / "libkupaldiz_proved.a", *(OUT / it / f"lib{LIBRARY}.a" for it in OTHERS)):
         path.unlink(missing_ok=True)
-    *most, last = sorted(os.sched_getaffinity(0))
-    has_many, proofs = len(most) + 1 >= MANY, []
     began = subprocess.run(["tools/proof-record.py", "begin", LIMITS], cwd=ROOT, stdout=subprocess.PIPE, check=True).stdout
-    pools = edits, proving = ThreadPoolExecutor(1), ThreadPoolExecutor(1)
     OUT.mkdir(exist_ok=True)
-    with tempfile.TemporaryDirectory(prefix="archive-", dir=OUT) as folder:
-        room = pathlib.Path(folder)
-        try:
-            line, status = follow(["taskset", "-c", ",".join(map(str, most)), *command] if has_many else command,
-                                  lambda crate: has_many and edits_of(crate, GATE) and edits.submit(try_edits, edits_of(crate, GATE), last),
-                                  lambda: proofs.append(proving.submit(prove, room, began)))
-            stands = bool(proofs) and archive(proofs[0].result(), room)
-        finally:
-            for pool in pools:
-                pool.shutdown(cancel_futures=True)
+    with tempfile.TemporaryDirectory(prefix="archive-", dir=OUT) as folder, ThreadPoolExecutor(1) as beside:
+        room, proofs = pathlib.Path(folder), []
+        line, status = follow(command, lambda: proofs.append(beside.submit(prove, room, began)))
+        stands = bool(proofs) and archive(proofs[0].result(), room)
     counted = LAST_LINE.match(line)
     if not counted:
         sys.exit(line)
@@ -129,4 +101,4 @@ def main():
 
 
 if __name__ == "__main__":
-    sys.exit(main())
+    sys.exit(main(*sys.argv[1:]))

@@ -70,7 +70,7 @@ tools/limits.py file "${chosen[@]}" >"$room/limits.rt"
 # The headers that a client of this archive includes, in one folder.
 mkdir "$room/include"
 cp crates/registry_c/include/*.h "$room/include"
-tools/limits.py header "$room/limits.rt" >"$room/include/kupaldiz_limits.h"
+tools/limits.py header "${chosen[@]}" >"$room/include/kupaldiz_limits.h"
 [ -n "$library" ] || prove
 (cd "$room" && ar x "$library")
 cp "$room/registry_c.o" "$room/compiled.o"

@@ -2,7 +2,8 @@
 """Makes what is of each call of kupaldiz.h, kupaldiz_waiting.h and kupaldiz_table.h, from these.
 
     tools/call-headers.py make      writes kupaldiz_check.h and kupaldiz_tsan.h, from their frames in
-                                    c/include, texts.h and checked.h; all in out/made/c
+                                    c/include, texts.h, checked.h and checked_table.h; all in
+                                    out/made/c
 
 Git keeps none of these. Each make makes them first, and so does a build of the archive. A line
 '@PART HEADER' of a frame stands for a part that is made of the header's calls:
@@ -14,7 +15,7 @@ Git keeps none of these. Each make makes them first, and so does a build of the 
 
 texts.h has what the header says of each result. checked.h has what is looked at before a call, by
 its parameters. c/src/check.c has the functions that look, and the few calls that are written by
-hand.
+hand. checked_table.h has the same for kupaldiz_table.h: c/src/check_table.c is compiled of it.
 """
 import functools
 import importlib
@@ -30,14 +31,12 @@ pages = importlib.import_module("header-pages")
 HEADERS = {"kupaldiz.h": "crates/registry_c/include/kupaldiz.h",
            "kupaldiz_waiting.h": "c/include/kupaldiz_waiting.h",
            "kupaldiz_table.h": "c/include/kupaldiz_table.h"}
-# Of these the checking build has nothing.
-UNCHECKED = ("kupaldiz_table.h",)
 HANDLE = re.compile(r"struct kupaldiz_(keeper|cpu|passive|local) \*")
 LOCAL = re.compile(r"\blocal\b")
 ACQUIRED = re.compile(r"^struct kupaldiz_(?:passive|local) \*(\w+)$")
 NAME, ENTRY = "const struct kupaldiz_name *", "struct kupaldiz_entry *"
-# The frame declares it: it compares the limits first.
-OPEN = "kupaldiz_open"
+# The frame has the macros of both, which compare the limits first, and declares the first one.
+OPEN, OPEN_TABLE = "kupaldiz_open", "kupaldiz_table_open"
 BY_HAND = (OPEN, *(f"kupaldiz_{it}" for it in ("close", "copy", "release", "copy_local")))
 # What orders memory. Before a call what was written is shown, or is let go of. After one that is
 # done what was shown is seen, or nobody uses it any more.
@@ -52,20 +51,23 @@ AFTER = {
     "KUPALDIZ_LET_GO": "destroy destroy_wait perform_turn perform_wait close table_destroy "
                        "table_perform table_close",
 }
-# What is looked at before a call of kupaldiz_waiting.h: the functions are check.c's.
+# What is looked at before a call of kupaldiz_waiting.h: the functions are check.c's, and those for
+# tables check_table.c's.
 TAKES = "judge_interlock(interlock);", "judge_may_wait(interlock);"
 LIST_TAKES = "judge_interlock(deferred->interlock);", "judge_may_wait(deferred->interlock);"
 LOOKED_AT = {
     "interlock_of_mutex": ["learn(&outer, keeper, mutex, false);"],
     "release_local": TAKES[:1],
-    "destroy_wait": [*TAKES, "judge_own(interlock, number);"],
+    "destroy_wait": [*TAKES, "kupaldiz_check_own(interlock, number);"],
     "perform_wait": TAKES,
     **{f"deferred_{it}": ["judge_locked(deferred->interlock);"]
        for it in ("count", "add", "call", "free")},
     "deferred_barrier": LIST_TAKES,
     "reclaimer_start": LIST_TAKES[:1],
     "reclaimer_stop": LIST_TAKES[:1],
-    "pool_give": ["judge_empty(kupaldiz_pool_cpu(pool));"],
+    "pool_give": ["kupaldiz_check_left(kupaldiz_pool_cpu(pool));"],
+    "table_give": ["judge_left(thread);"],
+    "table_destroy": ["judge_own(thread, number, deadline);"],
 }
 
 
@@ -111,6 +113,9 @@ def wrapped(text, width=100, joint="\n"):
     """The text in lines; a parameter stays whole."""
     whole = re.sub(r"\w[\w *]*(?=[,)])", lambda it: it[0].replace(" ", "~"), text)
     lines = textwrap.wrap(whole, width, subsequent_indent="    ", break_on_hyphens=False)
+    if lines[0] == "enum kupaldiz_result":  # a call's name is on its first line
+        name, more = lines[1].strip().split("(", 1)
+        lines[:2] = [f"{lines[0]} {name}(", f"    {more}"]
     return joint.join(lines).replace("~", " ")
 
 
@@ -135,7 +140,7 @@ def declared(call, header):
 
 
 def macro(call, header):
-    if call.name == OPEN:
+    if call.name in (OPEN, OPEN_TABLE):
         return ""
     becomes = f"kupaldiz_checked_{short(call)}({given(call)}, KUPALDIZ_AT)"
     return f"#define {call.name}({given(call)}) \\\n\t" + wrapped(becomes, 84, " \\\n\t")
@@ -209,7 +214,7 @@ def checked(call, header):
         lines = [f'begin("{call.name}", file, line);', *looked_at(call, header),
                  f"return {ended(call)};"]
     else:
-        lines = [f'note_outer("{call.name}", file, line);', *LOOKED_AT.get(short(call), ()),
+        lines = [f'kupaldiz_check_outer("{call.name}", file, line);', *LOOKED_AT.get(short(call), ()),
                  f"return {call.name}({given(call)});"]
     return function(wrapped(head(call, "checked", "KUPALDIZ_FROM")), lines)
 
@@ -239,11 +244,16 @@ def texts(_):
 
 
 def functions(_):
-    return "\n".join(part("functions", header) for header in HEADERS if header not in UNCHECKED)
+    return "\n".join(part("functions", header) for header in ("kupaldiz.h", "kupaldiz_waiting.h"))
+
+
+def table_functions(_):
+    return part("functions", "kupaldiz_table.h")
 
 
 FOLDER = ROOT / "out/made/c"
-MADE = {"kupaldiz_check.h": framed, "kupaldiz_tsan.h": framed, "texts.h": texts, "checked.h": functions}
+MADE = {"kupaldiz_check.h": framed, "kupaldiz_tsan.h": framed, "texts.h": texts,
+        "checked_table.h": table_functions, "checked.h": functions}
 # What they are made from.
 FROM = ("tools/call-headers.py", "tools/header-pages.py", *HEADERS.values(),
         "c/include/kupaldiz_check.h.in", "c/include/kupaldiz_tsan.h.in")

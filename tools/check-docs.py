@@ -31,7 +31,7 @@ FOREIGN = {
     "ck": "ck_epoch_section_2",
     "arc-swap": "load_full",
     "crossbeam": "Collector register",
-    "Debian": "libck",
+    "Debian": "libck taskset",
     "glibc": "tcache_count",
     "Rust": "HashMap RwLock",
     "earlier versions": "poll_lend",
@@ -174,9 +174,9 @@ def checks_of(path, words):
 
 
 def has_facts(path):
-    """Whether it is a page, a manual page or a header."""
+    """Whether it is a page, a manual page, a header or a picture."""
     name = str(path.relative_to(ROOT))
-    return any(fnmatch(name, it) for it in ("*.md", "man/*", "*/include/*.h", "rust/src/lib.rs"))
+    return any(fnmatch(name, it) for it in ("*.md", "man/*", "*/include/*.h", "rust/src/lib.rs", "docs/pictures/*"))
 
 
 def main():

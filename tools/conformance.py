@@ -102,10 +102,17 @@ class Writer:
         return " ".join([verb, *(getattr(self, it)() for it in COMMANDS[verb].arguments.split())])
 
     def burst(self):
-        """A section on one CPU in which something is looked up and referred to, as far as these commands go."""
-        cpu = self.cpu()
-        lines = [f"enter {cpu}", f"find {cpu} {self.entry()}", f"{self.rng.choice(('ref', 'count'))} {cpu} {self.label()}"]
-        lines += [f"exit {cpu}"] if self.rng.random() < 0.9 else []
+        """A section on one CPU in which something is looked up and referred to, as far as these commands go. In one of eight it is counted by each label and
+        detached, and then let go of by one label after the other."""
+        cpu, entry = self.cpu(), self.entry()
+        lines = [f"enter {cpu}", f"find {cpu} {entry}"]
+        if self.rng.random() < 0.875:
+            lines += [f"{self.rng.choice(('ref', 'count'))} {cpu} {self.label()}"] + [f"exit {cpu}"] * (self.rng.random() < 0.9)
+        else:
+            lines += [f"count {cpu} {label}" for label in "abc"] + [f"exit {cpu}", f"detach {cpu} {entry}"]
+            numbers = range(max(1, self.changes // 4 - 2), self.changes // 4 + 1)
+            for label in "abc":
+                lines += [f"advance {number}" for number in numbers] + [f"uncount {cpu} {label}"]
         return [line for line in lines if line.split()[0] in self.allowed]
 
     def head(self):

@@ -18,24 +18,14 @@ import subprocess
 import sys
 import tempfile
 
-ROOT = pathlib.Path(__file__).resolve().parent.parent
+from checks import ROOT
+
 OWNER = re.compile(r"(?:pub )?(impl|trait)\b(?:<[^{]*?>)?\s*(.*?)\s*(?:where\b.*)?(?:: .*)?\{$")
-FUNCTION = re.compile(r'( *)(pub )?(?:final |const |unsafe |extern "C" )*fn (\w+)')
+FUNCTION = re.compile(r'( *)(pub |pub\(crate\) )?(?:final |const |unsafe |extern "C" )*fn (\w+)')
 # The head of a trait's methods for a type. The checker's name of such a method begins with both names in one, first the type's.
 METHODS = re.compile(r"impl\b(?:<[^{]*?>)?\s*(\w+)(?:<.*>)? for ")
-PRIVATE = re.compile(r"( *)(?:pub\(crate\) )?(?:const )?fn (\w+)")
-Function = collections.namedtuple("Function", "path name is_public first last text")
-
-
-def sources(revision):
-    """Each source file of the revision: its path from the top, and its lines."""
-    with tempfile.TemporaryDirectory() as room:
-        top = ROOT if revision == "." else pathlib.Path(room)
-        if revision != ".":
-            archive = subprocess.run(["git", "archive", revision, "crates"], cwd=ROOT, check=True, stdout=subprocess.PIPE).stdout
-            subprocess.run(["tar", "-x", "-C", room], input=archive, check=True)
-        for path in top.glob("crates/*/src/**/*.rt"):
-            yield path.relative_to(top).as_posix(), path.read_text().split("\n")
+# A function of a file: its lines from the first one on, the one that opens its body, the last one, and the text between.
+Function = collections.namedtuple("Function", "path name is_public first body last text")
 
 
 def contract(lines, indent):
@@ -55,83 +45,53 @@ def contract(lines, indent):
     return [re.sub(r",? ([)\]])", r"\1", re.sub(r"([(\[]) ", r"\1", it)) for it in texts]
 
 
-def heads(lines):
-    """Where a function may begin: each line's number, its text, the type that it is in, as `Type::`, and whether that is a public trait."""
-    owner, is_trait = "", False
-    for number, line in enumerate(lines):
-        if found := OWNER.match(line):
-            owner = re.sub(r"<.*", "", found[2].split(" for ")[-1]) + "::"
-            is_trait = line.startswith("pub trait")
-        elif line == "}":
-            owner, is_trait = "", False
-        yield number, line, owner, is_trait
-
-
-def blocks(lines):
-    """A block of text for each public function of a file."""
-    for number, line, owner, is_trait in heads(lines):
-        found = FUNCTION.match(line)
-        if found and (found[2] or is_trait):
-            head, *clauses = contract(lines[number:], found[1])
-            yield "\n".join([owner + found[3], "  " + head, *("    " + clause for clause in clauses)])
-
-
-def opens_body(line, indent):
-    """Whether the line, below a function's first, has the bracket that opens its body."""
-    return bool(re.fullmatch(rf"{indent}(\{{|\).* \{{)", line))
-
-
-def end_of(lines, first, indent):
-    """The line that ends the function which begins here: its closing bracket, or its semicolon where it has no body."""
-    has_body = lines[first].endswith("{")
+def body_of(lines, first, indent):
+    """The lines that open and close the body of the function which begins here; without a body the line with its semicolon."""
+    opens = first if lines[first].endswith(("{", "{}")) else None
     for number in range(first, len(lines)):
-        if lines[number] in (indent + "}", indent + "{}") or lines[first].endswith("{}"):
-            return number
-        if lines[number].endswith(";") and not has_body:
-            return number
-        has_body = has_body or opens_body(lines[number], indent)
-    return len(lines) - 1
+        if opens is None and re.fullmatch(rf"{indent}(\{{|\).* \{{)", lines[number]):
+            opens = number
+        ends = lines[number] in (indent + "}", indent + "{}") or lines[first].endswith("{}")
+        if ends or opens is None and lines[number].endswith(";"):
+            break
+    return number if opens is None else opens, number
 
 
 def functions_of(path):
     """The functions of a file, public and private."""
-    lines, trait = path.read_text().split("\n"), ""
-    for number, line, owner, is_trait in heads(lines):
-        methods, public = METHODS.match(line), FUNCTION.match(line)
-        # The trait whose methods for a type these are.
-        trait = methods[1] if methods else "" if line == "}" else trait
-        if head := public or PRIVATE.match(line):
-            last = end_of(lines, number, head[1])
-            name = owner.replace("::", f"{trait}::") + head[3 if public else 2]
-            yield Function(path, name, bool(public and (public[2] or is_trait)), number, last, "\n".join(lines[number + 1:last]))
+    lines, owner, is_trait = path.read_text().split("\n"), "", False
+    for number, line in enumerate(lines):
+        if found := OWNER.match(line):
+            methods = METHODS.match(line)
+            owner = re.sub(r"<.*", "", found[2].split(" for ")[-1]) + (methods[1] if methods else "") + "::"
+            is_trait = line.startswith("pub trait")
+        elif line == "}":
+            owner, is_trait = "", False
+        if head := FUNCTION.match(line):
+            body, last = body_of(lines, number, head[1])
+            yield Function(path, owner + head[3], head[2] == "pub " or is_trait, number, body, last, "\n".join(lines[number + 1:last]))
 
 
-def module_of(path, source):
-    """The module that a file of the folder `source` (a crate's src/) holds, as `steps::locals`."""
-    parts = [it for it in path.relative_to(source).with_suffix("").parts if it not in ("lib", "main", "mod")]
-    return "::".join(parts)
+def blocks(path):
+    """A block of text for each public function of a file."""
+    lines = path.read_text().split("\n")
+    for it in functions_of(path):
+        if it.is_public:
+            head, *clauses = contract(lines[it.first:], re.match(" *", lines[it.first])[0])
+            yield "\n".join([it.name, "  " + head, *("    " + clause for clause in clauses)])
 
 
-def body_begins(function):
-    """The line with the bracket that opens the function's body: no line after it is of its contract."""
-    lines = function.path.read_text().split("\n")
-    indent = re.match(" *", lines[function.first])[0]
-    opens = (number for number in range(function.first, function.last) if opens_body(lines[number], indent))
-    return function.first if lines[function.first].endswith("{") else next(opens, function.last)
-
-
-def main():
-    revision, *crates = sys.argv[1:] or ["."]
+def main(revision=".", *crates):
     if revision.startswith("-"):
         sys.exit(__doc__)
-    found = [
-        block
-        for path, lines in sources(revision)
-        if not crates or path.split("/")[1] in crates
-        for block in blocks(lines)
-    ]
+    with tempfile.TemporaryDirectory() as room:
+        top = ROOT if revision == "." else pathlib.Path(room)
+        if revision != ".":
+            archive = subprocess.run(["git", "archive", revision, "crates"], cwd=ROOT, check=True, stdout=subprocess.PIPE).stdout
+            subprocess.run(["tar", "-x", "-C", room], input=archive, check=True)
+        found = [block for crate in crates or "*" for path in top.glob(f"crates/{crate}/src/**/*.rt") for block in blocks(path)]
     print("\n\n".join(sorted(found)))
 
 
 if __name__ == "__main__":
-    main()
+    main(*sys.argv[1:])

@@ -38,8 +38,9 @@ def operations(names):
 def changed(kind):
     """Microseconds with 1, 4 and 8 CPUs and no reader, and with three readers."""
     alone, beside = map(block, re.findall(rf"^{kind}.*$", run(), re.M))
-    for who in (it for it in alone if it != "CPUs"):
-        yield f"`{who}`", ", ".join(alone[who][place] for place in (0, 3, 7)), beside[who][2]
+    counts, busy = alone.pop("CPUs"), beside.pop("CPUs")
+    for who in alone:
+        yield f"`{who}`", ", ".join(alone[who][counts.index(cpus)] for cpus in "148"), beside[who][busy.index("4")]
 
 
 def changes():

@@ -26,7 +26,7 @@ STEPS = [
     # Every proof of the crates, except what an earlier run on this machine proved of the same files, and every test.
     ("rt ci, and the archive", ["tools/archive-beside.py", "rt", "ci"]),
     # Wrong bodies, over the libraries that were proved.
-    ("edits", ["tools/edits.py", "gate", "--beside"]),
+    ("edits", ["tools/edits.py", "gate"]),
     # What stands outside of Rattle, over the program and the archive that were proved.
     ("clients", [TESTS, *"page build c watched heap netbsd explorer rust rust-watched aarch64 tutorial program tools".split()]),
 ]

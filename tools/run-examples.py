@@ -8,6 +8,9 @@ examples/. The program is ./registry_run, or the one that --program names. It mu
 says on standard error that nothing is proved. With --try nothing is proved either: `rt try` compiles the program anew for each engine. The last line counts the
 runs.
 
+With --steps a page's steps are run instead: each block `sh` with a block `text` right after it, which is what its commands print at the top of the tree, on
+both streams; the number of a thread may be another one. The tutorial for C needs out/libkupaldiz_proved.a.
+
 Code in the documents must be part of a source, up to blank lines; what isn't is said, and fails. A fenced block `rust` is looked for in
 crates/registry_examples/src and in rust/examples, a block `c` in c or netbsd/tests. A block `LANGUAGE PATH` is looked for
 in that file alone, whatever the language.
@@ -29,6 +32,8 @@ SOURCES = {
     "c": [path for folder in ("c", "netbsd/tests", "docs/tutorial") for path in sorted((ROOT / folder).rglob("*.c"))],
 }
 PAGES = [ROOT / "README.md", ROOT / "rust/README.md", *sorted((ROOT / "docs").glob("*.md"))]
+STEP = re.compile(r"^```sh\n(.*?)^```\n```text\n(.*?)^```$", re.MULTILINE | re.DOTALL)
+THREAD = re.compile(r"\bthread \d+")
 FILES = [ROOT / "README.md", *sorted((ROOT / "docs").glob("*.md")), *sorted((ROOT / "examples").glob("*.txt"))]
 
 
@@ -90,12 +95,23 @@ def runs(found, program):
             yield "" if is_right else f"{place} {engine}: status {status}, and it said\n{printed}{complained}and not\n{text}".rstrip("\n")
 
 
+def steps(page):
+    """What is wrong with each step of a page; '' where nothing is."""
+    for commands, told in STEP.findall(page.read_text()):
+        _, said, _ = ran(["bash", "-ec", f"exec 2>&1 </dev/null\n{commands}"])
+        is_told = THREAD.sub("thread", said) == THREAD.sub("thread", told)
+        yield "" if is_told else f"{page.name}: it should print\n{told}and it prints\n{said}of\n{commands}".rstrip("\n")
+
+
 def main():
     parser = argparse.ArgumentParser(description=__doc__.split("\n")[0])
     parser.add_argument("--program", default=ROOT / "registry_run", type=pathlib.Path, help="the program that is run")
     parser.add_argument("--try", dest="tried", action="store_true", help="compile by rt try, without proofs")
+    parser.add_argument("--steps", type=pathlib.Path, metavar="PAGE", help="run the steps of a page")
     parser.add_argument("files", nargs="*", type=pathlib.Path, default=FILES)
     options = parser.parse_args()
+    if options.steps:
+        sys.exit(counted(steps(options.steps)))
     found = [example for path in options.files for example in examples(path)]
     sys.exit(counted([*strayed(), *runs(found, None if options.tried else options.program.resolve())]))
 

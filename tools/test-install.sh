@@ -2,8 +2,8 @@
 # Installs libkupaldiz, libkupaldiz_netbsd and libkupaldiz_explorer into scratch folders, looks at each file that is there, builds and runs programs that know
 # the libraries by pkg-config alone, and uninstalls them: under a folder of its own, as Debian has it, in a path with blanks, and over an older version.
 # It needs out/libkupaldiz_proved.a; the last line is 'N passed, M failed'.
-# shellcheck source=tools/tests/scenario.sh
-. "$(dirname "$0")/tests/scenario.sh"
+. "$(dirname "$0")/tests/common.sh"
+. packaging/scenario.sh
 need out/libkupaldiz_proved.a "tools/build-archive.sh proves and builds it"
 module=kupaldiz
 # What is installed from, and where to.
@@ -45,7 +45,7 @@ refused_by_linker() {
 
 # An #include of a plain name, as <cpu.h>, finds nothing of these libraries: what the folders for the compiler offer has the library's name, or a folder's.
 offers_no_plain_name() {
-    prints_nothing find "$stage$prefix/include" "$stage$prefix/include/kupaldiz/netbsd" -maxdepth 1 -type f -not -name 'kupaldiz*.h'
+    prints "" find "$stage$prefix/include" "$stage$prefix/include/kupaldiz/netbsd" -maxdepth 1 -type f -not -name 'kupaldiz*.h'
 }
 
 # is_hardened LIBRARY: its relocations are done and read-only from the start on, its stack isn't run, and it stays loaded.
@@ -199,7 +199,7 @@ programs_run() {
 
 # Pages and folders can be read by everyone.
 open_to_all() {
-    prints_nothing find "$stage$prefix" \( -type d -not -perm 755 \) -o \( -type f -path '*/share/man/*' -not -perm 644 \)
+    prints "" find "$stage$prefix" \( -type d -not -perm 755 \) -o \( -type f -path '*/share/man/*' -not -perm 644 \)
 }
 
 # Nothing that is read names the scratch folder or the repository.
@@ -219,7 +219,7 @@ pc_says() {
 }
 
 leaves_nothing() {
-    prints_nothing find "$stage" \( -type f -o -type l \) -o -type d -path '*/include/kupaldiz*' -o -type d -path '*/cmake/kupaldiz*' -o -type d -path '*/doc/kupaldiz*'
+    prints "" find "$stage" \( -type f -o -type l \) -o -type d -path '*/include/kupaldiz*' -o -type d -path '*/cmake/kupaldiz*' -o -type d -path '*/doc/kupaldiz*'
 }
 
 # A copy of what is installed, which is changed as the work on it goes on: from here on it is what is installed from.
@@ -275,7 +275,7 @@ done
 for library in libkupaldiz libkupaldiz_netbsd; do
     check "$library takes a shadow stack" takes_shadow_stack $library
 done
-check "libkupaldiz_explorer, which switches stacks, takes none" negated takes_shadow_stack libkupaldiz_explorer
+check "libkupaldiz_explorer, which switches stacks, takes none" eval '! takes_shadow_stack libkupaldiz_explorer'
 check "a program of the pages' names for other CPUs doesn't link" refused_by_linker
 check "programs over what is installed" programs_run
 if command -v cmake >/dev/null; then

@@ -6,16 +6,16 @@
 #
 #     twice    the release made twice, in two clones, is the same to the byte
 #     packet   gcc and make alone: how long after unpacking the first packet is looked up, which is one minute at most
-#     c        gcc, make and pkg-config: the examples; the source is built, checked, installed and uninstalled
+#     c        gcc, make and pkg-config: the examples; the source is built, checked, installed and packed
 #     cmake    find_package(kupaldiz)
-#     cargo    the crate as a path dependency, its tests and examples, with Debian's cargo and with the newest one that is here
+#     cargo    the crate as a path dependency, its tests and examples, with Debian's cargo
 #     apt      the Debian packages are installed, programs in C and Rust are built, and all is removed to nothing
 #     arm64    those for arm64 are installed beside those for amd64, and programs are built over them and run under qemu
 #
 # It runs as root, and needs mmdebstrap, and a mirror while a root is made. RELEASE names another folder than release/, ROOTS where the roots are kept from run
 # to run. The last line is 'N passed, M failed'.
-# shellcheck source=tools/tests/scenario.sh
-. "$(dirname "$0")/tests/scenario.sh"
+. "$(dirname "$0")/tests/common.sh"
+. packaging/scenario.sh
 release=$(realpath -m "${RELEASE:-release}")
 suite=bookworm
 architectures=amd64
@@ -56,23 +56,13 @@ inside() {
     local name=$1 at=$room/$1
     rm -rf "$at"
     mkdir -p "$at" && tar -C "$at" -xf "$roots/$name.tar" && mkdir -p "$at/release" && cp "$release"/* "$at/release" && cp tools/try-release.sh "$at/try" || return
-    if [ -n "${rust-}" ]; then
-        mkdir -p "$at/rust"
-    fi
     # shellcheck disable=SC2016
     timeout 6000 unshare --net --mount --pid --fork sh -c '
-        if [ -n "$3" ]; then mount --bind -o ro "$3" "$1/rust" || exit; fi
-        mount -t proc proc "$1/proc" && exec chroot "$1" env -i PATH=/usr/sbin:/usr/bin:/sbin:/bin LC_ALL=C.UTF-8 VERSION="$2" bash -eux -o pipefail /try "$4"' \
-        sh "$at" "$version" "${rust-}" "$name"
+        mount -t proc proc "$1/proc" && exec chroot "$1" env -i PATH=/usr/sbin:/usr/bin:/sbin:/bin LC_ALL=C.UTF-8 VERSION="$2" bash -eux -o pipefail /try "$3"' \
+        sh "$at" "$version" "$name"
     local status=$?
     rm -rf --one-file-system "$at"
     return "$status"
-}
-
-# tries NAME PART: counts the part, in the root of that name, as one check. Its lines `done: ..` say what it shows.
-tries() {
-    check "$1" inside "$2"
-    sed -n 's/^done: /        /p' "$log"
 }
 
 # again FOLDER: a release made in a clone in that folder, of the same commit and the same archives.
@@ -90,21 +80,11 @@ same_twice() {
     again "$room/one" && again "$room/another folder" && diff -r "$room/one/release" "$room/another folder/release"
 }
 
-# test_root PART NAME PACKAGE..: a root with these packages is made, and the part is tried in it.
+# test_root PART NAME PACKAGE..: a root with these packages is made, and the part is tried in it. Its lines `done: ..` say what it shows.
 test_root() {
     check "a root with ${*:3}" root "$1" "${@:3}"
-    tries "$2" "$1"
-}
-
-# Once more with the newest cargo.
-test_newer_cargo() {
-    rust=$(rustc --print sysroot 2>/dev/null)
-    if [ -n "$rust" ] && [ "$rust" != /usr ]; then
-        tries "$(rustc --version)" cargo
-    else
-        echo "NOT RUN: a newer cargo than Debian's, as there is none here"
-    fi
-    rust=
+    check "$2" inside "$1"
+    sed -n 's/^done: /        /p' "$log"
 }
 
 # Each part has what it needs in its root, and nothing else.
@@ -115,7 +95,7 @@ test_part() {
     packet) test_root packet "gcc and make alone" "${c[@]}" xz-utils ;;
     c) test_root c "gcc, make and pkg-config" "${c[@]}" pkg-config xz-utils diffutils ;;
     cmake) test_root cmake "cmake" "${c[@]}" cmake xz-utils ;;
-    cargo) test_root cargo "Debian's cargo" cargo xz-utils && test_newer_cargo ;;
+    cargo) test_root cargo "Debian's cargo" cargo xz-utils ;;
     apt) test_root apt "the Debian packages" "${c[@]}" pkg-config cargo ;;
     arm64) architectures=amd64,arm64 test_root arm64 "the Debian packages for arm64" gcc-aarch64-linux-gnu libc6-dev:arm64 make pkg-config qemu-user-static ;;
     esac

@@ -83,14 +83,13 @@ esac
 """
 LOW = "crates/low/out/rlib/low.rlib/format"
 EDITS = "crates/crate/wrong.edits"
-BESIDE = "out/refused-beside"
 ENTRIES = "".join(f"{kind} wrong_{it} in {file}: It is wrong.\n    right {it}; ==> wrong {it};\n" for kind, it, file in (
     ("gate", "one", "src/lib.rt"), ("gate", "two", "src/lib.rt"), ("prover", "caller", "src/lib.rt"), ("tests", "three", "crates/crate/src/lib.rt")))
 # Of as many others as three gates try, each is tried by one of three trees whose hashes follow one another.
 MANY = "".join(f"prover more_{it} in src/lib.rt: It is wrong.\n    right caller; ==> wrong caller; // {it}\n" for it in range(50))
 SETS = f"export PATH=$PWD/bin:$PATH TOP=$PWD LOW=$PWD/{LOW}\n"
 TREE = {
-    BESIDE: "", "crates.txt": "low: std\ncrate: low std\n", "crates/crate/src/lib.rt": SOURCE, EDITS: ENTRIES, LOW: "low\n", "bin/rt": RT, "kit/KIT-ID": "kit\n",
+    "crates.txt": "low: std\ncrate: low std\n", "crates/crate/src/lib.rt": SOURCE, EDITS: ENTRIES, LOW: "low\n", "bin/rt": RT, "kit/KIT-ID": "kit\n",
     "kit/bin/rattle": RATTLE, "bin/git": '#!/bin/sh\necho "${HASH:-00000000}"\n', "try": f"#!/bin/sh\n{SETS}exec tools/edits.py \"$@\"\n",
     "gates": "#!/bin/sh\nfor it in 0 1 2; do\n    HASH=0000000$it ./try gate || exit 1\ndone\n",
 }
@@ -109,9 +108,6 @@ SAMPLER = Case("edits", ["edits.py", "wrong.py", "contracts.py", "kit.py", "chec
         ("a proof that names what is gone", "only because a proof names", 'state="no proof: \\`search\\` did not prove it"', 'state="not proved"'),
         ("a proof that can't be read", "only because a proof names", 'state="no proof: \\`search\\` did not prove it"', 'state="no proof: expected answers in ./proofs/one"')),
     *of("bin/rt", ("tests that are cut off", "NOT TRIED", "test t::three FAILED", "cut off")),
-    Fault("an edit that was refused beside, and another that wasn't", "wrong_two: NOT REFUSED",
-          ((EDITS, "==> wrong two;", "==> right two; // still"), (BESIDE, "", "crate/wrong_one: refused: it is\ncrate/wrong_two: NOT REFUSED\n")), ["./try", "gate", "--beside"]),
-    Fault("one that was refused once, by hand", "wrong_one: NOT REFUSED", ((EDITS, ONE, "right one; ==> right one; // still"), (BESIDE, "", "crate/wrong_one: refused: it is\n")), ["./try", "gate"]),
     Fault("no edits", "0 passed, 1 failed", ((EDITS, ENTRIES, ""),), ["./try", "gate"])])
 SAMPLES = Case("samples of edits", SAMPLER.tools, {**TREE, EDITS: MANY}, ["./gates"], [
     *of(EDITS, *((f"other {it}, proved", f"more_{it}: NOT REFUSED", f"==> wrong caller; // {it}\n", f"==> right caller; // {it}\n") for it in (0, 20, 49)))])

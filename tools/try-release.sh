@@ -37,40 +37,20 @@ try_c() {
     unpack "$linux.tar.xz"
     make -C "$linux/examples" check
     echo "done: make -C examples check"
-    # Moved, and by pkg-config.
-    here="$room/a folder with blanks"
-    mv "$linux" "$here"
-    cp -r "$here/examples" mine
-    export PKG_CONFIG_PATH=$here/lib/pkgconfig
-    make -C mine clean
-    LD_LIBRARY_PATH=$here/lib make -C mine check
-    make -C mine clean
-    make -C mine check LINK=-static
-    echo "done: the same by pkg-config alone, in a folder that was moved, shared and static"
-    if [ -x "$here/bin/registry_run" ]; then
-        "$here/bin/registry_run" storm 4 1000 | grep -x 'wrong 0'
+    if [ -x "$linux/bin/registry_run" ]; then
+        "$linux/bin/registry_run" storm 4 1000 | grep -x 'wrong 0'
         echo "done: registry_run"
     fi
-    unset PKG_CONFIG_PATH
     unpack "kupaldiz-$VERSION.tar.xz"
     cd "kupaldiz-$VERSION"
     make check
     echo "done: make check in the source"
-    # Everything but this script's own folder.
-    files() {
-        find / -xdev \( -path "$room" -o -path /proc \) -prune -o \( -type f -o -type l \) -print | sort
-    }
-    files >"$room/before"
     make install
     make installcheck
     echo "done: make install and make installcheck"
     make dist
-    tar -tf "out/kupaldiz-$VERSION.tar.xz" | sed 's|/$||' | sort >"$room/again"
-    tar -tf "/release/kupaldiz-$VERSION.tar.xz" | sed 's|/$||' | sort | diff - "$room/again"
+    diff <(tar -tf "out/kupaldiz-$VERSION.tar.xz" | sort) <(tar -tf "/release/kupaldiz-$VERSION.tar.xz" | sort)
     echo "done: make dist packs the same files again"
-    make uninstall
-    files | diff "$room/before" -
-    echo "done: make uninstall leaves nothing"
 }
 
 # In a root with gcc, make and cmake: the examples find the release by find_package.
@@ -84,9 +64,6 @@ try_cmake() {
 
 # In a root with cargo: a program depends on the crate by its path, and the crate's tests and examples run.
 try_cargo() {
-    if [ -x /rust/bin/cargo ]; then
-        export PATH=/rust/bin:$PATH
-    fi
     cargo --version
     export CARGO_HOME=$room/cargo
     unpack "kupaldiz-$VERSION.crate"

@@ -8,7 +8,6 @@ from checks import ROOT
 GATE, PROVER, TESTS = KINDS = ("gate", "prover", "tests")
 BLOCK = re.compile(rf"^({'|'.join(KINDS)}) (\w+) in (\S+):(.*)\n((?:    .*\n)*)", re.M)
 CRATES = sorted(it.name for it in (ROOT / "crates").iterdir() if it.is_dir())
-Change = collections.namedtuple("Change", "path old new")
 
 
 class Edit(collections.namedtuple("Edit", "crate kind name file reason text")):
@@ -27,25 +26,24 @@ def edits_of(crate, *kinds):
     text = file_of(crate).read_text() if file_of(crate).is_file() else ""
     if strange := BLOCK.sub("", text).strip():
         sys.exit(f"{crate}/wrong.edits: neither a line KIND NAME in FILE: REASON nor one below it: {strange.splitlines()[0]}")
-    found = (Edit(crate, *block) for block in BLOCK.findall(text))
-    return [it for it in found if it.kind in (kinds or KINDS)]
+    return [it for it in (Edit(crate, *block) for block in BLOCK.findall(text)) if it.kind in (kinds or KINDS)]
 
 
-def changes(edit, tree=ROOT):
-    """The changes of an edit, in order. It names its files from the top of the tree if it is for the tests, else from its crate's folder."""
+def changes(edit, tree):
+    """The changes of an edit, in order: file, old text, new text. Files are named from the top of the tree if it is for the tests, else from its crate's folder."""
     base = tree if edit.kind == TESTS else tree / "crates" / edit.crate
     path = base / edit.file
     for line in edit.text.splitlines():
         old, is_change, new = line.removeprefix("    ").partition(" ==>")
         if is_change:
-            yield Change(path, old, new.removeprefix(" "))
+            yield path, old, new.removeprefix(" ")
         elif old.startswith("file: "):
             path = base / old.removeprefix("file: ")
 
 
 def places(edit):
     """The file and the line of each text that the edit changes."""
-    for path, old, _ in changes(edit):
+    for path, old, _ in changes(edit, ROOT):
         before, found, _ = path.read_text().partition(old) if path.is_file() else ("", "", "")
         if found:
             yield path, before.count("\n")

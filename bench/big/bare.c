@@ -1,11 +1,12 @@
 /*
  * Loads without a table: what the caches miss, in the order of the lookups
  *
- * `bare-hit` loads the lines of a lookup that is remembered, each of which says where the next one is: of the memory of choices, of the seat and of three of
- * its registry's CPU, of a hint, of what is remembered in the slot, and of the slot. As many names share each of them as in a table of ours. `bare-list` goes
- * through lists as long as ours, and compares each name.
+ * `bare-hit` loads the lines of a lookup that is remembered, and each line says where the next one is: of the memory of choices, of the handle's CPU, of what
+ * this leads to, of a hint, of what is remembered in the slot, and of the slot. They lie as in a table of ours: as many names share each of them.
+ * `bare-list` goes through lists as long as ours, and compares each name.
  */
 #include <stdlib.h>
+#include <string.h>
 
 #include "../../c/src/table/choice.h"
 #include "big.h"
@@ -20,29 +21,22 @@ static uint64_t below(uint64_t hash, uint64_t end)
     return (hash >> 32) * end >> 32;
 }
 
-/* A line, which says where a name's next one is. */
-struct stop {
-    _Alignas(64) uint64_t words[8];
-};
-
-/* How many lines of a kind there are, for so many entries. */
-enum kind { MEMORY, SEAT, CPU_FIRST, CPU_SECOND, CPU_THIRD, HINT, ROW, SLOT, KINDS };
-static struct stop *stops[KINDS];
-static uint64_t counts[KINDS], all;
+/* What is loaded, in bytes: how much there is for each place of the memory, of each registry, or of each entry. */
+enum kind { PLACE, HANDLE, CPU, WORDS, HINT, ROW, SLOT, KINDS };
+static const uint64_t SIZES[KINDS] = {16, 32, 192, 128, 4096, 40, 64};
+static char *blocks[KINDS];
+static uint64_t lines, registries;
 
 static void open_hit(unsigned threads, uint64_t entries)
 {
-    const struct choice choice = choice_for(entries);
-    const uint64_t registries = choice.registries;
     (void)threads;
-    all = entries;
-    const uint64_t lines = (UINT64_C(1) << place_bits_for(entries)) / WAYS + 1;
-    const uint64_t wanted[KINDS] = {lines, registries, registries, registries, registries, 64 * registries, 2 * entries, 2 * entries};
+    registries = choice_for(entries).registries;
+    const uint64_t places = UINT64_C(1) << place_bits_for(entries);
+    const uint64_t counts[KINDS] = {places, registries, registries, registries, registries, entries, entries};
+    lines = places / WAYS;
     for (unsigned kind = 0; kind < KINDS; kind++) {
-        counts[kind] = wanted[kind];
-        stops[kind] = aligned_alloc(64, counts[kind] * sizeof *stops[kind]);
-        for (uint64_t i = 0; i < 8 * counts[kind]; i++)
-            stops[kind][i / 8].words[i % 8] = 0;
+        const uint64_t bytes = (counts[kind] * SIZES[kind] / 64 + 1) * 64;
+        blocks[kind] = memset(aligned_alloc(64, bytes), 0, bytes);
     }
 }
 
@@ -53,21 +47,28 @@ static void keep_hit(unsigned thread, struct item *item)
     (void)item;
 }
 
-/* The place of a name's line of that kind. Lines of a registry are shared by its names, and those of the row and the slot are the name's own. */
+/* The word at that place, which is 0. It waits for what was found before. */
+static uint64_t loaded(enum kind kind, uint64_t index, uint64_t offset, uint64_t found)
+{
+    return *(const uint64_t *)(blocks[kind] + index * SIZES[kind] + offset + found);
+}
+
+/* Three lines of a registry's CPU, and two of what it leads to. The row's places have no line of their own, so some lie on two. */
 static uint64_t load_hit(unsigned thread, const struct name *sought)
 {
-    const uint64_t place = (uint64_t)(sought - names), hash = place * 0x9e3779b97f4a7c15;
-    uint64_t found = 0;
+    const uint64_t place = (uint64_t)(sought - names), hash = place * 0x9e3779b97f4a7c15, id = ids[place];
+    const uint64_t registry = below(hash * 0xc4ceb9fe1a85ec53, registries);
     (void)thread;
-    /* Each load adds what the one before found, which is 0: so it waits for that. */
-    found = stops[MEMORY][below(hash, counts[MEMORY]) + found].words[0];
-    const uint64_t registry = below(hash * 0xc4ceb9fe1a85ec53, counts[SEAT]);
-    for (unsigned kind = SEAT; kind <= CPU_THIRD; kind++)
-        found = stops[kind][registry + found].words[0];
-    found = stops[HINT][64 * registry + (hash & 63) + found].words[0];
-    found = stops[ROW][2 * ids[place] + found].words[0];
-    found = stops[SLOT][2 * ids[place] + found].words[0];
-    return ids[place] + found;
+    uint64_t found = loaded(PLACE, WAYS * below(hash, lines), 0, 0);
+    found = loaded(HANDLE, registry, 0, found);
+    for (uint64_t line = 0; line < 3; line++)
+        found = loaded(CPU, registry, 64 * line, found);
+    for (uint64_t line = 0; line < 2; line++)
+        found = loaded(WORDS, registry, 64 * line, found);
+    found = loaded(HINT, registry, 64 * (hash & 63), found);
+    found = loaded(ROW, id, 0, found);
+    found = loaded(ROW, id, 32, found);
+    return id + loaded(SLOT, id, 0, found);
 }
 
 const struct contender bare_hit = {"bare-hit", open_hit, nothing, nothing, keep_hit, load_hit, NULL, false};

@@ -86,7 +86,7 @@ const struct contender ours_look_up = {"look_up", open_table, begin, end, add_id
 const struct contender ours_roomy = {"roomy", open_roomy, begin, end, add_id, look_up, NULL, false};
 const struct contender ours_get = {"get", open_table, begin, end, add, get, replace, false};
 
-/* ---- One registry, of which the same eight names are looked up. ---- */
+/* ---- One registry, in which the same eight names are looked up. ---- */
 
 static struct kupaldiz_keeper keeper;
 static struct kupaldiz_cpu cpus[MOST_THREADS];

@@ -15,8 +15,7 @@
  *
  * Results, references and entries are those of kupaldiz.h. An entry's number is unique in the table
  * and never reused; its slot is below twice the table's entries. Entries have the kind
- * KUPALDIZ_ENTRY. The calls test their arguments in the order of kupaldiz.h. The checking build
- * doesn't know tables: what it says, and where, is of the calls beneath.
+ * KUPALDIZ_ENTRY. The calls test their arguments in the order of kupaldiz.h.
  */
 #ifndef KUPALDIZ_TABLE_H
 #define KUPALDIZ_TABLE_H
@@ -176,12 +175,12 @@ enum kupaldiz_result kupaldiz_table_release_local(const struct kupaldiz_table_th
  * registries if the table is full.
  *
  * KUPALDIZ_CROWDED says that the registry has no vacant slot, although the table isn't full.
- * Registries have together twice as many slots as the table has entries. So of names that were
- * chosen without knowing the secret, in R registries with m names in each on average, the
- * probability that any registry has too few slots is below R * (e / 4)^m / sqrt(4 * pi * m), which
- * is below 10^-12 for each size that a table can have. Retired entries of one name are in one
- * registry, and count. In a build with fewer slots the formula's result is larger. A table of up to
- * KUPALDIZ_MOST_SLOTS entries has one registry, and is never crowded.
+ * Registries have together twice as many slots as the table has entries. So names that were chosen
+ * without knowing the secret hardly ever crowd one: in R registries with m names in each on average
+ * the probability is below R * (e / 4)^m / sqrt(4 * pi * m). That is below 10^-12 for each size
+ * that a table can have. Retired entries of one name are in one registry, and count. In a build
+ * with fewer slots the formula's result is larger. A table of up to KUPALDIZ_MOST_SLOTS entries has
+ * one registry, and is never crowded.
  * Returns KUPALDIZ_EMPTY_HANDLE, KUPALDIZ_NULL if `name` is NULL, KUPALDIZ_BAD_NAME,
  * KUPALDIZ_INSIDE within a visit of this registry's entries, KUPALDIZ_NAME_TAKEN, KUPALDIZ_NO_SLOT
  * if the table is full, KUPALDIZ_CROWDED, KUPALDIZ_HISTORY_FULL.
@@ -301,6 +300,113 @@ enum kupaldiz_result kupaldiz_table_audit(const struct kupaldiz_table *table, ui
 enum kupaldiz_result kupaldiz_table_count(const struct kupaldiz_table *table, uint64_t *count)
     KUPALDIZ_NONNULL(1);
 
+/*
+ * The rest is private, and the library's alone. It is here so that a lookup is inlined, if its
+ * handle remembers which registry the name chose. choice.h of the library has what it means.
+ */
+struct kupaldiz_table_registry;
+
+/* A handle's CPU of a registry, and what makes a number and a slot of it the table's. */
+struct kupaldiz_table_cpu {
+	struct kupaldiz_cpu cpu;
+	uint64_t number;
+	struct kupaldiz_table_registry *registry;
+	uint64_t slot;
+};
+
+struct kupaldiz_table_place {
+	uint64_t low;
+	uint64_t rest;
+};
+
+struct kupaldiz_table_memory {
+	uint64_t factors[2];
+	uint64_t registries;
+	uint64_t count;
+	struct kupaldiz_table_place *places;
+	struct kupaldiz_table_cpu *cpus;
+	uint64_t missed;
+};
+
+/* Where a name is sought first, and what it has there if its registry's index is 0. */
+struct kupaldiz_table_sought {
+	uint64_t own;
+	struct kupaldiz_table_place as;
+};
+
+static inline struct kupaldiz_table_sought kupaldiz_table_sought_as(
+    const struct kupaldiz_table_memory *memory, const struct kupaldiz_name *name)
+{
+	__extension__ typedef unsigned __int128 wide;
+	const uint64_t product = name->high * memory->factors[0] + name->low * memory->factors[1];
+	const wide both = (wide)product * memory->count;
+	struct kupaldiz_table_sought sought;
+	sought.own = (uint64_t)(both >> 64);
+	sought.as.low = name->low;
+	sought.as.rest = (uint64_t)both;
+	return sought;
+}
+
+/* The handle's CPU of the registry that the name chose, if it is remembered there; or NULL. */
+static inline struct kupaldiz_table_cpu *kupaldiz_table_recalled(
+    const struct kupaldiz_table_thread *thread, const struct kupaldiz_name *name)
+{
+	const struct kupaldiz_table_memory *memory =
+	    (const struct kupaldiz_table_memory *)thread->at;
+	uint64_t index = 0;
+	if (memory == NULL || name == NULL)
+		return NULL;
+	if (memory->registries != 1) {
+		const struct kupaldiz_table_sought sought = kupaldiz_table_sought_as(memory, name);
+		const struct kupaldiz_table_place *place = &memory->places[sought.own];
+		index = place->low == name->low ? place->rest ^ sought.as.rest : UINT64_MAX;
+	}
+	return index < memory->registries ? &memory->cpus[index] : NULL;
+}
+
+/*
+ * An entry of the registry becomes the table's. A compiler that made both in one step would wait
+ * for the two stores of the call before. So the two aren't both sums, and lie apart.
+ */
+static inline void kupaldiz_table_widen(const struct kupaldiz_table_cpu *on,
+    struct kupaldiz_entry *entry)
+{
+	entry->number |= on->number;
+	entry->slot += on->slot;
+}
+
+/* What a program calls as kupaldiz_table_look_up and kupaldiz_table_get. */
+static inline KUPALDIZ_MUST_USE enum kupaldiz_result
+    kupaldiz_table_look_up_inlined(const struct kupaldiz_table_thread *thread,
+    const struct kupaldiz_name *name, struct kupaldiz_entry *found)
+{
+	struct kupaldiz_table_cpu *on = kupaldiz_table_recalled(thread, name);
+	if (on == NULL)
+		return kupaldiz_table_look_up(thread, name, found);
+	enum kupaldiz_result result = kupaldiz_look_up(&on->cpu, KUPALDIZ_ENTRY, name, found);
+	if (result == KUPALDIZ_DONE && found != NULL)
+		kupaldiz_table_widen(on, found);
+	return result;
+}
+
+static inline KUPALDIZ_MUST_USE enum kupaldiz_result
+    kupaldiz_table_get_inlined(const struct kupaldiz_table_thread *thread,
+    const struct kupaldiz_name *name, struct kupaldiz_passive *reference)
+{
+	struct kupaldiz_table_cpu *on = kupaldiz_table_recalled(thread, name);
+	if (on == NULL)
+		return kupaldiz_table_get(thread, name, reference);
+	enum kupaldiz_result result = kupaldiz_get(&on->cpu, KUPALDIZ_ENTRY, name, reference);
+	if (result == KUPALDIZ_DONE)
+		kupaldiz_table_widen(on, &reference->entry);
+	return result;
+}
+
+#if !defined(KUPALDIZ_INNER) && !defined(KUPALDIZ_TSAN) && !defined(KUPALDIZ_CHECK)
+#define kupaldiz_table_look_up	kupaldiz_table_look_up_inlined
+#define kupaldiz_table_get	kupaldiz_table_get_inlined
+#endif
+
 /* What a program calls as kupaldiz_table_open. */
 static inline enum kupaldiz_result kupaldiz_table_open_compared(
     const struct kupaldiz_table_settings *settings, struct kupaldiz_table *table)
@@ -319,14 +425,19 @@ static inline enum kupaldiz_result kupaldiz_table_open_compared(
 KUPALDIZ_WORDS(struct kupaldiz_table, 1);
 KUPALDIZ_WORDS(struct kupaldiz_table_thread, 2);
 KUPALDIZ_WORDS(struct kupaldiz_table_settings, 4);
+KUPALDIZ_WORDS(struct kupaldiz_table_cpu, 4);
+KUPALDIZ_WORDS(struct kupaldiz_table_place, 2);
+KUPALDIZ_WORDS(struct kupaldiz_table_memory, 7);
 
 #ifdef __cplusplus
 }
 #endif
 
-/* The thread sanitizer: its header has a part for the calls above. */
+/* The checking build and the thread sanitizer: these headers have a part for the calls above. */
 #define KUPALDIZ_TABLE_DECLARED
-#if defined(KUPALDIZ_TSAN) && !defined(KUPALDIZ_INNER) && !defined(KUPALDIZ_CHECK)
+#if defined(KUPALDIZ_CHECK)
+#include "kupaldiz_check.h"
+#elif defined(KUPALDIZ_TSAN) && !defined(KUPALDIZ_INNER)
 #include "kupaldiz_tsan.h"
 #endif
 #endif

@@ -38,6 +38,8 @@ static __thread struct record *used[KUPALDIZ_MOST_CPUS + 2];
 static __thread size_t uses;
 static __thread int cancels;
 static __thread struct event outer = {"kupaldiz_reclaimer_start", "the thread of", 0, 0};
+/* What a table adds to the numbers of the registry that it opens next. */
+static __thread uint64_t numbers_above;
 
 /* ---- A call, from its beginning to its end. ---- */
 
@@ -327,7 +329,8 @@ static _Noreturn void tell_not_held(const struct record *on, struct record sough
 		    holder != NULL ? "; " : "", text);
 	if (holder != NULL)
 		tell(&now, "%s, and this is CPU %" PRIu64, text, on->cpu);
-	tell(&now, "CPU %" PRIu64 " never acquired a reference %" PRIu64, on->cpu, sought.key);
+	tell(&now, "CPU %" PRIu64 " never acquired a reference %" PRIu64, on->cpu,
+	    on->above + sought.key);
 }
 
 /*
@@ -371,7 +374,7 @@ static struct record reference_of(enum kind kind, const struct kupaldiz_entry *e
 	record.kind = kind;
 	record.user.call = NULL;
 	record.made = now;
-	record.number = entry->number;
+	record.number = record.above + entry->number;
 	if (kupaldiz_name_format(&entry->name, record.name, sizeof record.name) != KUPALDIZ_DONE)
 		record.name[0] = 0;
 	for (char *byte = record.name; *byte != 0; byte++)
@@ -393,7 +396,7 @@ static enum kupaldiz_result acquired(enum kupaldiz_result result,
 	if (result != KUPALDIZ_DONE)
 		return end(result);
 	struct record record = reference_of(PASSIVE, &reference->entry);
-	record.key = record.number;
+	record.key = reference->entry.number;
 	record.tag = ++tags;
 	insert_locked(&record);
 	own_references++;
@@ -428,6 +431,8 @@ enum kupaldiz_result kupaldiz_checked_open(enum kupaldiz_result opened,
 		return end(opened);
 	struct record record = of_handle(KEEPER, keeper);
 	record.registry = ++registries;
+	record.above = numbers_above;
+	numbers_above = 0;
 	record.forks = forks;
 	record.opened = now;
 	insert_locked(&record);
@@ -485,15 +490,22 @@ enum kupaldiz_result kupaldiz_checked_copy_local(struct kupaldiz_local *from,
 	begin("kupaldiz_copy_local", file, line);
 	struct kupaldiz_local *library = use_local(from);
 	judge_pointer(LOCAL, copy);
-	return acquired_local(kupaldiz_copy_local(library, copy), copy);
+	enum kupaldiz_result result = acquired_local(kupaldiz_copy_local(library, copy), copy);
+	if (result == KUPALDIZ_DONE)
+		copy->entry = from->entry;	/* of a table it has the table's number */
+	return result;
 }
 
 /* ---- What is looked at before a call of kupaldiz_waiting.h, which makes calls like these. ---- */
 
-/* What these find is told with this place. */
-static void note_outer(const char *call, KUPALDIZ_FROM)
+void kupaldiz_check_outer(const char *call, KUPALDIZ_FROM)
 {
 	outer = event_of(call, file, line);
+}
+
+void kupaldiz_check_above(uint64_t above)
+{
+	numbers_above = above;
 }
 
 /* Tells if this thread, which is to wait, has such a section or reference of the registry. */
@@ -522,7 +534,7 @@ static void judge_may_wait(const struct kupaldiz_interlock *interlock)
 		judge_waiter(interlock->keeper, CPU, 0);
 }
 
-static void judge_own(const struct kupaldiz_interlock *interlock, uint64_t number)
+void kupaldiz_check_own(const struct kupaldiz_interlock *interlock, uint64_t number)
 {
 	if (own_references != 0)
 		judge_waiter(interlock->keeper, PASSIVE, number);
@@ -549,8 +561,7 @@ static void judge_interlock(const struct kupaldiz_interlock *interlock)
 	learn(&outer, interlock->keeper, mutex, false);
 }
 
-/* Tells if this thread has a passive reference on the CPU that it gives back. */
-static void judge_empty(const struct kupaldiz_cpu *cpu)
+void kupaldiz_check_left(const struct kupaldiz_cpu *cpu)
 {
 	if (cpu == NULL || own_references == 0)
 		return;
@@ -569,6 +580,14 @@ static void judge_empty(const struct kupaldiz_cpu *cpu)
 
 /* ---- Who holds an entry. ---- */
 
+/* Whether it is a reference to the entry, or a section that may hold it. */
+static bool may_hold(const struct record *record, uint64_t number)
+{
+	if (record->kind == CPU)
+		return record->above == number / KUPALDIZ_MOST_CHANGES * KUPALDIZ_MOST_CHANGES;
+	return record->number == number;
+}
+
 /* The references to the entry, or the open sections. */
 static void print_holders(FILE *out, uint64_t number, bool sections)
 {
@@ -576,8 +595,7 @@ static void print_holders(FILE *out, uint64_t number, bool sections)
 		[CPU] = "section", [LOCAL] = "local", [PASSIVE] = "passive"
 	};
 	for (const struct record *it = after(NULL); it != NULL; it = after(it))
-		if (it->made.call != NULL && (it->kind == CPU) == sections &&
-		    (sections || it->number == number))
+		if (it->made.call != NULL && (it->kind == CPU) == sections && may_hold(it, number))
 			fprintf(out, "%s, CPU %" PRIu64 ", %s:%u, thread %ld%s\n",
 			    words[it->kind], it->cpu, it->made.file, it->made.line,
 			    it->made.thread, is_alive(it->made.thread) ? "" : ", which has ended");

@@ -41,11 +41,12 @@ struct record {
 	enum kind kind;
 	uint64_t key;		/* the handle's word, a local's own number, a passive's entry's */
 	uint64_t registry;	/* a number of it, from 1 */
+	uint64_t above;		/* what its table adds to its numbers */
 	unsigned forks;		/* before it was opened */
 	struct event opened;
 	uint64_t on;		/* of the CPU, or of the acquiring one: no other CPU has it */
 	uint64_t cpu;		/* that CPU's number in its registry */
-	uint64_t number;	/* of the reference's entry, and its name */
+	uint64_t number;	/* of the reference's entry, as the program has it, and its name */
 	char name[KUPALDIZ_NAME_ROOM];
 	uint64_t tag;
 	struct event made;	/* what acquired the reference, or began the CPU's section */

@@ -12,6 +12,7 @@
 
 #include "child.h"
 #include "client.h"
+#include "kupaldiz_table.h"
 #include "kupaldiz_waiting.h"
 #include "wrapped_heap.h"
 
@@ -39,7 +40,7 @@ static atomic_bool is_there;
  * Which of them are the child's status and thread, and the seconds after which a process that hangs
  * is ended.
  */
-enum { STATUS = 6, THREAD, PATIENCE = 600 };
+enum { STATUS = 6, THREAD, PATIENCE = 3600 };
 
 /* What a find does before the library's. */
 static void (*before_find)(void);
@@ -575,6 +576,99 @@ static void made_again(void)
 	kupaldiz_holders(stderr, lost.entry.number);
 }
 
+/* ---- Tables. ---- */
+
+static struct kupaldiz_table table;
+static struct kupaldiz_table_thread user;
+
+static void open_table(uint64_t entries)
+{
+	const struct kupaldiz_table_settings settings = {2, entries, NULL, NULL};
+	DONE(kupaldiz_table_open(&settings, &table));
+	DONE(kupaldiz_table_take(&table, NULL, &user));
+}
+
+static void released_twice_in_table(void)
+{
+	open_table(10);
+	DONE(kupaldiz_table_attach(&user, &wm, 7, NULL));
+	DONE(kupaldiz_table_get(&user, &wm, &passive));
+	struct kupaldiz_passive copy = passive;
+	DONE(AT(0, kupaldiz_table_release(&user, &passive)));
+	(void)!AT(1, kupaldiz_table_release(&user, &copy));
+}
+
+static void left_in_table(void)
+{
+	open_table(10);
+	DONE(kupaldiz_table_attach(&user, &wm, 7, NULL));
+	DONE(AT(0, kupaldiz_table_get(&user, &wm, &passive)));
+	(void)!AT(1, kupaldiz_table_give(&user));
+}
+
+/* A destroy that doesn't wait says who holds it. */
+static void waits_for_own_in_table(void)
+{
+	static const struct timespec past = {0, 0};
+	open_table(10);
+	DONE(kupaldiz_table_attach(&user, &wm, 7, NULL));
+	DONE(AT(0, kupaldiz_table_get(&user, &wm, &passive)));
+	DONE(kupaldiz_table_detach(&user, &wm, &found));
+	IS(STILL_HELD, kupaldiz_table_destroy(&user, found.number, &past, NULL));
+	(void)!AT(1, kupaldiz_table_destroy(&user, found.number, NULL, NULL));
+}
+
+/* In each registry but the first there is an entry that has the number 1 there. */
+static void attach_many(void)
+{
+	for (uint64_t id = 0; id < 1000; id++) {
+		struct kupaldiz_name name;
+		struct kupaldiz_entry made;
+		DONE(kupaldiz_name_of_id(id, &name));
+		DONE(kupaldiz_table_attach(&user, &name, id, &made));
+		if (made.number % KUPALDIZ_MOST_CHANGES == 1 &&
+		    made.number > KUPALDIZ_MOST_CHANGES)
+			found = made;
+	}
+}
+
+static bool print_in_visit(void *of, const struct kupaldiz_entry *entry)
+{
+	(void)of;
+	if (entry->number == found.number)
+		kupaldiz_holders(stderr, found.number);
+	return true;
+}
+
+/* Of the table's number: not of the entries that have the same one in their registries. */
+static void who_holds_in_table(void)
+{
+	struct kupaldiz_local copy = {0};
+	open_table(1000);
+	attach_many();
+	DONE(GET(cpu0, &passive));
+	DONE(kupaldiz_release(cpu0, &passive));
+	DONE(AT(0, kupaldiz_table_get(&user, &found.name, &passive)));
+	EXPECT(passive.entry.number == found.number);
+	kupaldiz_holders(stderr, found.number);
+	DONE(kupaldiz_table_release(&user, &passive));
+	DONE(AT(1, kupaldiz_table_get_local(&user, &found.name, &local)));
+	kupaldiz_holders(stderr, found.number);
+	DONE(AT(2, kupaldiz_table_copy_local(&local, &copy)));
+	DONE(kupaldiz_table_release_local(&user, &local));
+	EXPECT(copy.entry.number == found.number);
+	kupaldiz_holders(stderr, found.number);
+	DONE(kupaldiz_table_release_local(&user, &copy));
+	DONE(AT(3, kupaldiz_table_walk(&user, print_in_visit, NULL)));
+	DONE(GET(cpu0, &passive));
+	kupaldiz_holders(stderr, found.number);
+	DONE(kupaldiz_release(cpu0, &passive));
+	DONE(kupaldiz_table_give(&user));
+	DONE(kupaldiz_table_close(&table));
+}
+
+/* ---- More that is right. ---- */
+
 static void *visit(void *of)
 {
 	DONE(kupaldiz_pool_take(of, NULL, NULL));
@@ -767,6 +861,16 @@ static const struct row ROWS[] = {
 	    "passive, CPU 0, @1, thread @t\npassive, CPU 0, @0, thread @t\n"
 	    "section, CPU 1, @2, thread @t\n"
 	    "passive, CPU 0, @1, thread @t\npassive, CPU 0, @0, thread @t\n"),
+	ROW(released_twice_in_table,
+	    "@1: kupaldiz_table_release: wm's reference 1 was released already at @0\n"),
+	ROW(left_in_table,
+	    "@1: kupaldiz_table_give: wm's reference 1, acquired at @0, stays on CPU 0\n"),
+	ROW(waits_for_own_in_table,
+	    "@1: kupaldiz_table_destroy: this thread's own reference holds the entry: wm's "
+	    "reference 1, acquired at @0\n"),
+	ROW(who_holds_in_table,
+	    "passive, CPU 0, @0, thread @t\nlocal, CPU 0, @1, thread @t\n"
+	    "local, CPU 0, @2, thread @t\nsection, CPU 0, @3, thread @t\n"),
 	ROW(handed_over, ""),
 	ROW(made_again, ""),
 	ROW(given_back, ""),

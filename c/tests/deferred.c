@@ -154,7 +154,7 @@ static void free_all(void)
 	EXPECT(count == gone.count && (called == added || is_any_inside()));
 }
 
-/* ---- Deeds, of which some can't be done. ---- */
+/* ---- Deeds: some of them can't be done. ---- */
 
 static const struct kupaldiz_name *any_name(void)
 {

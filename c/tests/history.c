@@ -1,6 +1,7 @@
 /*
  * history - registries to the end of their histories, on one thread: very many changes and
- * references, and what the calls do with memory. Scripts have the rest: script.c
+ * references, what no script has a command for, and what the calls do with memory. What a turn
+ * meets, who holds what and an audit's counts are compared by scripts alone: script.c
  *
  *     history [CHANGES [SEED [PART]]]
  *
@@ -90,8 +91,6 @@ struct slot {
 	enum state state;
 	struct kupaldiz_entry entry;
 	uint64_t place;		/* in a walk: its number, or the place of the one it replaced */
-	uint64_t driver;	/* the number of the driver that an interface keeps, or 0 */
-	uint64_t ended;		/* how many changes there were after its detach */
 	bool collected;		/* a turn has met KUPALDIZ_LOCAL */
 };
 
@@ -102,14 +101,9 @@ static struct kupaldiz_name names[NAMES];
 static struct slot slots[SLOTS];
 static struct kupaldiz_passive passives[HELD];
 static struct kupaldiz_local locals[HELD];
-static uint64_t changes, entered[CPUS];	/* how many changes a section has seen plus 1, or 0 */
-static uint64_t blocks_at_first, compared;
+static bool is_inside[CPUS];
+static uint64_t changes, blocks_at_first, compared;
 static unsigned last_cpu;
-
-static bool is_inside(unsigned cpu)
-{
-	return entered[cpu] != 0;
-}
 
 static unsigned any_cpu(void)
 {
@@ -164,7 +158,6 @@ static void retire(struct slot *slot, const struct kupaldiz_entry *gone)
 {
 	EXPECT(same_entry(gone, &slot->entry));
 	slot->state = RETIRED;
-	slot->ended = changes;
 }
 
 /* What an attach returns that finds this entry by its name, or a replacement. */
@@ -189,7 +182,7 @@ static void bring(enum kupaldiz_kind kind, const struct kupaldiz_name *name,
 	enum kupaldiz_result wanted = judge_change(old, replaces), result;
 	struct kupaldiz_entry made = {0}, gone = {0};
 	const uint64_t value = random_word;
-	if (is_inside(last_cpu))
+	if (is_inside[last_cpu])
 		wanted = KUPALDIZ_INSIDE;
 	else if (kind == KUPALDIZ_INTERFACE && driver == NULL)
 		wanted = KUPALDIZ_NEEDS_DRIVER;
@@ -204,8 +197,7 @@ static void bring(enum kupaldiz_kind kind, const struct kupaldiz_name *name,
 	if (result != KUPALDIZ_DONE)
 		return;
 	*slot = (struct slot){.state = LIVE, .entry = {changes + 1, (uint64_t)(slot - slots), kind,
-	    *name, {value}}, .place = replaces ? old->place : changes + 1,
-	    .driver = kind == KUPALDIZ_INTERFACE ? driver->entry.number : 0};
+	    *name, {value}}, .place = replaces ? old->place : changes + 1};
 	EXPECT(same_entry(&made, &slot->entry));
 	changes++;
 	if (replaces)
@@ -229,8 +221,8 @@ static void detach_named(enum kupaldiz_kind kind, const struct kupaldiz_name *na
 	const enum kupaldiz_result wanted = slot == NULL ? KUPALDIZ_NOT_FOUND : KUPALDIZ_DONE;
 	const unsigned cpu = any_cpu();
 	same(kupaldiz_detach(&keeper, &cpus[cpu], kind, name, &gone),
-	    is_inside(cpu) ? KUPALDIZ_INSIDE : wanted);
-	if (slot == NULL || is_inside(cpu))
+	    is_inside[cpu] ? KUPALDIZ_INSIDE : wanted);
+	if (slot == NULL || is_inside[cpu])
 		return;
 	changes++;
 	retire(slot, &gone);
@@ -263,9 +255,9 @@ static void look_up(void)
 static void enter_or_exit(void)
 {
 	const unsigned cpu = any_cpu();
-	same(is_inside(cpu) ? kupaldiz_exit(&cpus[cpu]) : kupaldiz_enter(&cpus[cpu]),
+	same(is_inside[cpu] ? kupaldiz_exit(&cpus[cpu]) : kupaldiz_enter(&cpus[cpu]),
 	    KUPALDIZ_DONE);
-	entered[cpu] = is_inside(cpu) ? 0 : changes + 1;
+	is_inside[cpu] = !is_inside[cpu];
 }
 
 /* Each live entry, the newest first; one that replaced another in that one's place. */
@@ -372,64 +364,32 @@ static void uncount(void)
 
 /* ---- Turns. ---- */
 
-/* How many local references to the entry are held, those that slots keep among them. */
-static uint64_t count_locals(uint64_t number)
+/* Whether a reference of the test's own is to the entry with this number. */
+static bool is_referred_to(uint64_t number)
 {
-	uint64_t sum = 0;
 	for (unsigned i = 0; i < HELD; i++)
-		sum += locals[i].entry.number == number;
-	for (unsigned s = 0; s < settings.slots; s++)
-		sum += slots[s].state != VACANT && slots[s].driver == number;
-	return sum;
-}
-
-/* The first CPU, from 0, whose section may hold the retired entry; or how many CPUs there are. */
-static uint64_t first_inside(const struct slot *slot)
-{
-	uint64_t cpu = 0;
-	while (cpu < settings.cpus && (entered[cpu] == 0 || entered[cpu] > slot->ended))
-		cpu++;
-	return cpu;
-}
-
-/* The same of the CPUs that refer to it passively. */
-static uint64_t first_referring(uint64_t number)
-{
-	uint64_t cpu = settings.cpus;
-	for (unsigned i = 0; i < HELD; i++)
-		if (passives[i].entry.number == number && passives[i].cpu < cpu)
-			cpu = passives[i].cpu;
-	return cpu;
-}
-
-static struct kupaldiz_met what_holds(struct slot *slot)
-{
-	const uint64_t number = slot->entry.number, count = count_locals(number);
-	const uint64_t inside = first_inside(slot), referring = first_referring(number);
-	if (inside < settings.cpus)
-		return (struct kupaldiz_met){KUPALDIZ_GRACE, inside};
-	if (referring < settings.cpus)
-		return (struct kupaldiz_met){KUPALDIZ_PASSIVE, referring};
-	slot->collected = true;
-	return count != 0 ? (struct kupaldiz_met){KUPALDIZ_LOCAL, count}
-	                  : (struct kupaldiz_met){KUPALDIZ_FREED, slot->entry.slot};
+		if (passives[i].entry.number == number || locals[i].entry.number == number)
+			return true;
+	return false;
 }
 
 /* A turn of a retired entry, or with a number that none has. */
 static void turn(struct slot *slot)
 {
-	struct kupaldiz_met met, wanted;
+	struct kupaldiz_met met;
+	const enum kupaldiz_result result = kupaldiz_destroy(&keeper, slot->entry.number, &met);
 	if (slot->state != RETIRED) {
-		same(kupaldiz_destroy(&keeper, slot->entry.number, NULL), KUPALDIZ_NOT_RETIRED);
+		same(result, KUPALDIZ_NOT_RETIRED);
 		return;
 	}
-	wanted = what_holds(slot);
-	const bool is_free = wanted.stage == KUPALDIZ_FREED;
-	same(kupaldiz_destroy(&keeper, slot->entry.number, &met),
-	    is_free ? KUPALDIZ_DONE : KUPALDIZ_STILL_HELD);
-	EXPECT(met.stage == wanted.stage && met.what == wanted.what);
-	if (is_free)
-		slot->state = VACANT;
+	const bool is_free = result == KUPALDIZ_DONE;
+	same(result, is_free ? KUPALDIZ_DONE : KUPALDIZ_STILL_HELD);
+	EXPECT(is_free == (met.stage == KUPALDIZ_FREED));
+	slot->collected |= met.stage == KUPALDIZ_LOCAL;
+	if (!is_free)
+		return;
+	EXPECT(met.what == slot->entry.slot && !is_referred_to(slot->entry.number));
+	slot->state = VACANT;
 }
 
 static void destroy(void)
@@ -440,17 +400,9 @@ static void destroy(void)
 static void audit(void)
 {
 	static struct kupaldiz_balance list[SLOTS];
-	size_t length, met = 0;
+	size_t length;
 	same(kupaldiz_audit(&keeper, cpus, settings.cpus, list, SLOTS, &length), KUPALDIZ_DONE);
-	for (unsigned s = 0; s < settings.slots; s++) {
-		const uint64_t number = slots[s].entry.number;
-		if (slots[s].state == VACANT)
-			continue;
-		EXPECT(met < length && list[met].number == number && list[met].slot == s);
-		EXPECT(list[met].held == (int64_t)count_locals(number));
-		met++;
-	}
-	EXPECT(met == length);
+	EXPECT(length == settings.slots - count_of(VACANT));
 }
 
 /* ---- One call after another. ---- */
@@ -496,9 +448,9 @@ static enum writer act_any(uint64_t among)
 static void let_all_go(void)
 {
 	for (last_cpu = 0; last_cpu < settings.cpus; last_cpu++)
-		if (is_inside(last_cpu))
+		if (is_inside[last_cpu])
 			DONE(kupaldiz_exit(&cpus[last_cpu]));
-	memset(entered, 0, sizeof entered);
+	memset(is_inside, 0, sizeof is_inside);
 	for (unsigned i = 0; i < HELD; i++)
 		if (passives[i].entry.number != 0)
 			DONE(kupaldiz_release(&cpus[passives[i].cpu], &passives[i]));
@@ -710,7 +662,7 @@ static unsigned holder(unsigned reference)
 	return reference % 16 == 15 ? 1 + reference / 16 % 7 : 0;
 }
 
-/* Of a number of references that are left, what a turn meets. */
+/* What a turn meets while this number of references is left. */
 static void expect_met(uint64_t number, enum kupaldiz_stage stage, uint64_t what)
 {
 	struct kupaldiz_met met;

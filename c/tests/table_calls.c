@@ -1,6 +1,6 @@
 /*
  * table_calls - each call of kupaldiz_table.h by itself: results, numbers, who holds, full
- * registries in a table that isn't full, and an opening of which each allocation fails in turn
+ * registries in a table that isn't full, and an opening whose allocations fail in turn
  *
  * The linker leads getrandom here, so that the secret is known, and what the opening allocates by,
  * so that it fails once.
@@ -12,7 +12,7 @@
 #include <unistd.h>
 
 #include "../src/table/inner.h"
-#include "client.h"
+#include "both_forms.h"
 #include "wrapped_heap.h"
 
 /* So many entries have so many registries of these slots. */
@@ -74,7 +74,7 @@ static void open_table(uint64_t entries)
 
 static const struct choice *own_choice(void)
 {
-	return &((const struct member *)own.at)->choice;
+	return &((const struct member *)own.at)->table->choice;
 }
 
 static void close_table(void)

@@ -11,7 +11,7 @@
 #include <sys/random.h>
 
 #include "../src/table/inner.h"
-#include "client.h"
+#include "both_forms.h"
 #include "wrapped_heap.h"
 
 /* So many entries have so many registries of these slots. */
@@ -61,7 +61,7 @@ static const struct member *member_of(const struct user *user)
 
 static uint64_t hashed(const struct user *user, const struct kupaldiz_name *name)
 {
-	return chosen(&member_of(user)->choice, name);
+	return chosen(&member_of(user)->table->choice, name);
 }
 
 /* The name, from this one on, that chooses the registry. Names count up in one word or in both. */
@@ -144,6 +144,7 @@ static void test_size(uint64_t entries)
 	EXPECT(choice.registries * choice.slots >= 2 * entries);
 	EXPECT(choice.registries * (choice.slots - 1) < 2 * entries);
 	EXPECT(choice.registries <= UINT64_C(1) << MOST_INDEX_BITS);
+	EXPECT(choice.registries * WAYS < UINT64_C(1) << place_bits_for(entries));
 	EXPECT(exact * exact < formula);
 	EXPECT(KUPALDIZ_MOST_SLOTS < 255 || formula < 1e-24);
 }
@@ -167,7 +168,7 @@ static void test_probability(void)
 /* The number of a name's own place. */
 static uint64_t own_place(const struct user *user, const struct kupaldiz_name *name)
 {
-	return sought_as(&member_of(user)->memory, &member_of(user)->choice, name).own;
+	return kupaldiz_table_sought_as(&member_of(user)->memory, name).own;
 }
 
 static uint64_t line_number(const struct user *user, const struct kupaldiz_name *name)
@@ -178,11 +179,11 @@ static uint64_t line_number(const struct user *user, const struct kupaldiz_name 
 /* The index that the handle remembers of a name, or a larger number. */
 static uint64_t remembered(const struct user *user, const struct kupaldiz_name *name)
 {
-	const struct memory *memory = &member_of(user)->memory;
-	const struct sought sought = sought_as(memory, &member_of(user)->choice, name);
+	const struct kupaldiz_table_memory *memory = &member_of(user)->memory;
+	const struct kupaldiz_table_sought sought = kupaldiz_table_sought_as(memory, name);
 	uint64_t index = UINT64_MAX;
 	for (unsigned way = 0; way < WAYS && index >= REGISTRIES; way++)
-		index = index_at(&memory->places[sought.own ^ way], &sought);
+		index = index_at(memory, &sought, way);
 	return index;
 }
 
@@ -205,7 +206,7 @@ static void look_up_in_turn(const struct user *user, const struct kupaldiz_name 
 }
 
 /*
- * Names of one line, more than it has places, of which each two neighbours choose other registries.
+ * Names of one line, more than it has places. Each two neighbours choose other registries.
  * They differ in one word alone, or in both.
  */
 static void test_clashing(uint64_t high_step, uint64_t low_step)
@@ -231,13 +232,44 @@ static void test_products(void)
 	struct user user;
 	EXPECT(FACTOR * INVERSE == 1);
 	open_user(&user, NULL);
-	const uint64_t other = member_of(&user)->choice.secret.factors[1];
+	const uint64_t other = member_of(&user)->table->choice.secret.factors[1];
 	test_clashing(INVERSE, 0);		/* products that follow each other */
 	test_clashing(INVERSE << 20, 0);	/* products that differ in the middle */
 	test_clashing(-other * INVERSE, 1);	/* one product */
 	for (uint64_t i = 0; i < CLASHING; i++)
 		names[i] = (struct kupaldiz_name){(i + 1) << 56, 1};
 	look_up_in_turn(&user, names);
+	close_user(&user);
+}
+
+/*
+ * Names whose products differ only in which place of a line is their own: what is remembered of one
+ * in the place of another isn't taken for that one's.
+ */
+static void test_ways(void)
+{
+	const uint64_t step = INVERSE << (64 - place_bits_for(ENTRIES));
+	struct kupaldiz_name names[WAYS], clashing = FIRST;
+	struct user user;
+	open_user(&user, NULL);
+	names[0] = FIRST;
+	do
+		names[0].high++;
+	while (own_place(&user, &names[0]) % WAYS != 0);
+	for (unsigned i = 1; i < WAYS; i++) {
+		names[i] = (struct kupaldiz_name){names[0].high + i * step, names[0].low};
+		EXPECT(own_place(&user, &names[i]) == own_place(&user, &names[0]) + i);
+	}
+	do
+		clashing.low++;
+	while (own_place(&user, &clashing) != own_place(&user, &names[0]));
+	IS(NOT_FOUND, kupaldiz_table_look_up(&user.thread, &clashing, NULL));
+	for (unsigned i = 0; i < WAYS; i++) {
+		EXPECT(remembered(&user, &names[i]) >= REGISTRIES);
+		IS(NOT_FOUND, kupaldiz_table_look_up(&user.thread, &names[i], NULL));
+		EXPECT(i == WAYS - 1 ||
+		    remembered(&user, &names[i]) == hashed(&user, &names[i]));
+	}
 	close_user(&user);
 }
 
@@ -262,15 +294,15 @@ static void test_line(void)
 	open_user(&user, NULL);
 	names_of_place(&user, names, COUNT_OF(names));
 	for (unsigned i = 0; i < COUNT_OF(names); i++)
-		IS(NOT_FOUND, kupaldiz_table_look_up(&user.thread, &names[i], NULL));
+		IS(NOT_FOUND, look_up_plainly(&user.thread, &names[i], NULL));
 	for (unsigned i = 0; i < COUNT_OF(names); i++)
 		EXPECT(i < WAYS ? remembered(&user, &names[i]) == hashed(&user, &names[i]) :
 		    remembered(&user, &names[i]) >= REGISTRIES);
 	for (unsigned i = 0; i < ROUNDS; i++)
-		IS(NOT_FOUND, kupaldiz_table_look_up(&user.thread, &names[i % WAYS], NULL));
+		IS(NOT_FOUND, look_up_plainly(&user.thread, &names[i % WAYS], NULL));
 	EXPECT(member_of(&user)->memory.missed == 2);
 	for (unsigned i = 2; i < PATIENCE; i++)
-		IS(NOT_FOUND, kupaldiz_table_look_up(&user.thread, &names[WAYS], NULL));
+		IS(NOT_FOUND, look_up_plainly(&user.thread, &names[WAYS], NULL));
 	EXPECT(remembered(&user, &names[WAYS]) == hashed(&user, &names[WAYS]));
 	for (unsigned i = 0; i < WAYS; i++)
 		left += remembered(&user, &names[i]) == hashed(&user, &names[i]);
@@ -383,6 +415,7 @@ int main(void)
 	test_clashing(0, 1);
 	test_clashing(1, 1);
 	test_products();
+	test_ways();
 	test_memories();
 	test_chosen_names();
 	test_locks();

@@ -2,9 +2,9 @@
  * table_model [TURNS] - threads make random calls on a table of 10,000 entries, by default 20,000
  * each, and compare each result with a plain map
  *
- * Each thread alone changes the names that are its own, of which its part of the map says what the
- * table has. It looks up names of all threads, and uses the memory behind each entry that it holds.
- * Local references travel: a thread puts them into places of which another one takes them. What is
+ * Each thread alone changes the names that are its own, and its part of the map says what the table
+ * has of them. It looks up names of all threads, and uses the memory behind each entry that it holds.
+ * Local references travel: a thread puts them into places, and another one takes them. What is
  * gone is deferred, or destroyed; the last one to free an entry poisons its memory first.
  */
 #include <inttypes.h>
@@ -170,6 +170,16 @@ static bool look_up(struct worker *worker)
 	return true;
 }
 
+/* In the checking build a reference has a tag above its CPU's number. */
+static uint64_t cpu_of(const struct kupaldiz_passive *reference)
+{
+#ifdef KUPALDIZ_CHECK
+	return reference->cpu & 0xff;
+#else
+	return reference->cpu;
+#endif
+}
+
 /* A reference to any name goes to one of its places, whose reference is released before. */
 static bool get(struct worker *worker)
 {
@@ -187,7 +197,7 @@ static bool get(struct worker *worker)
 	if (result != KUPALDIZ_DONE)
 		return false;
 	use(&place->entry);
-	EXPECT(place->cpu == worker->thread.number);
+	EXPECT(cpu_of(place) == worker->thread.number);
 	return true;
 }
 

@@ -6,7 +6,8 @@
  *     outcomes [FIRST COUNT]        the random programs with these seeds
  *     outcomes for SECONDS FIRST    short ones, from this seed on, as many as there is time for
  *     outcomes reduced FIRST COUNT  what the search with the reduction comes to, for a comparison with a reduction that has a fault
- *     outcomes print FIRST COUNT    the same of those that real threads may be compared with
+ *     outcomes print FIRST COUNT    the same of those that real threads may be compared with; of these the ones with a 1 in their place in OUTCOMES_OF, if that
+ *                                   is in the environment
  */
 #include "deeds.h"
 
@@ -420,9 +421,17 @@ static void show_program(const char *head)
 	printf("%s%s, ticks %u: %s | %s | %s | %s\n", head, racy ? ", racy" : "", ticks, texts[0], texts[1], texts[2], texts[3]);
 }
 
+/* Whether the next program is one that OUTCOMES_OF asks for. */
+static bool is_asked_for(void)
+{
+	static size_t place;
+	const char *of = getenv("OUTCOMES_OF");
+	return of == NULL || (place < strlen(of) && of[place++] == '1');
+}
+
 static void compare(void)
 {
-	if (prints && uses(NOT_BESIDE))
+	if (prints && (uses(NOT_BESIDE) || !is_asked_for()))
 		return;
 	if (reduced_alone || prints) {
 		struct explorer_found found = explore(false);

@@ -2,10 +2,10 @@
  * threads.c - explorer.h on real threads, to compare the explorer with: the same tests, linked with this and with netbsd
  *
  * Each run has a process of its own, in which all threads begin at once. A run is wrong where its process ends by a signal or with another status than 0,
- * or takes more than five seconds. At each point stands a full barrier, and with EXPLORER_YIELD a chance to lose the processor: the explorer's orders are those
+ * or takes more than EXPLORER_SECONDS. At each point stands a full barrier, and with EXPLORER_YIELD a chance to lose the processor: the explorer's orders are those
  * of one memory that all threads see alike.
  *
- * EXPLORER_RUNS says how many runs there are, and EXPLORER_SECONDS how long they may take.
+ * EXPLORER_RUNS says how many runs there are, and EXPLORER_SECONDS how long they may take, each and together: a minute without it.
  */
 #include <pthread.h>
 #include <sched.h>
@@ -37,6 +37,7 @@ static struct made threads[EXPLORER_THREADS];
 static unsigned thread_count;
 static pthread_barrier_t begin;
 static bool yields;
+static unsigned seconds;
 static char *outcome;	/* that of the run: the parent has it, too */
 
 void explorer_thread(const char *name, void (*body)(void *), void *arg)
@@ -101,7 +102,7 @@ static void *run_thread(void *of)
 /* What a run does in its process. */
 static void run(void (*setup)(void), const struct explorer_options *options)
 {
-	alarm(5);
+	alarm(seconds);
 	kupaldiz_set_strict(options->strict);
 	setup();
 	pthread_barrier_init(&begin, NULL, thread_count);
@@ -161,7 +162,8 @@ int explorer_run(void (*setup)(void), const struct explorer_options *options)
 {
 	struct explorer_found *found = options->found;
 	uint64_t runs = number_of("EXPLORER_RUNS", 200);
-	time_t until = time(NULL) + (time_t)number_of("EXPLORER_SECONDS", 60);
+	seconds = (unsigned)number_of("EXPLORER_SECONDS", 60);
+	time_t until = time(NULL) + (time_t)seconds;
 	outcome = mmap(NULL, EXPLORER_TEXT, PROT_READ | PROT_WRITE, MAP_SHARED | MAP_ANONYMOUS, -1, 0);
 	yields = getenv("EXPLORER_YIELD") != NULL;
 	*found = (struct explorer_found){.bound = -1, .complete = true};

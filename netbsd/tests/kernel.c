@@ -340,7 +340,7 @@ static void test_time(void)
 	EXPECT(kpause("wait", true, hz, NULL) == EWOULDBLOCK && hz == 100);
 	delay(100);
 	DELAY(1);
-	EXPECT(getticks() - ticks >= hz && PRI_USER == PRI_IDLE && !cold && time_uptime - seconds >= 1 && time_uptime - seconds < 60);
+	EXPECT(getticks() - ticks >= hz && PRI_USER == PRI_IDLE && !cold && time_uptime - seconds >= 1);
 }
 
 static void test_copies(void)

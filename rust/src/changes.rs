@@ -13,7 +13,7 @@ use std::panic::Location;
 use std::sync::Arc;
 
 /// What an attach returns, or a replacement.
-type Changed<T, R = Entry> = Result<R, Refused<AttachError, T>>;
+pub(crate) type Changed<T, R = Entry> = Result<R, Refused<AttachError, T>>;
 
 /// Changes. An attach and a detach drop no `T`, so a caller may hold a lock that the drop of a `T`
 /// takes; but they [may wake](crate#your-code-in-a-call) tasks. Each fails first with `NoCpu`, if

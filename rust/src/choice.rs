@@ -32,9 +32,9 @@ fn divided_up(number: u64, by: u64) -> u64 {
     (number + by - 1) / by
 }
 
-/// As many registries as there may be, because lists are short then: with m names in each of R on
-/// average, R (e/4)^m / sqrt(4 pi m) is below 10^-12 if m is at least 64, and 2 more for each bit
-/// of an index.
+/// As many registries as there may be, because lists are short then. With m names in each on
+/// average, the probability that `Table::attach` bounds is below 10^-12 if m is at least 64, and 2
+/// more for each bit of an index.
 fn registries_for(entries: u64) -> u64 {
     let least = divided_up(2 * entries, ffi::MOST_SLOTS as u64);
     let fit = |bits: u64| (entries / (64 + 2 * bits)).min(1 << bits);
@@ -90,19 +90,18 @@ impl Choice {
         let entries = if self.registries > 1 { u64::from(self.entries) } else { 1 };
         let lines = divided_up(divided_up(5 * entries, 2), WAYS as u64).next_power_of_two();
         Memory {
+            factors: self.factors,
+            registries: self.registries as u64,
             lines: (0..lines).map(|_| Line::default()).collect(),
-            line_bits: lines.trailing_zeros(),
             missed: Cell::new(0),
         }
     }
 }
 
-/// A name and the index that it chose. A name's product is a sum, whose first bits are the number
-/// of its line. `rest` has the product's other bits first, and then the index. The factor of the
-/// name's high word is odd, so line, rest and low word are those of one name alone: all of it is
-/// compared.
+/// A name and the index that it chose. It is told from each other name of its line.
 #[derive(Clone, Copy)]
 struct Place {
+    /// The name's low word.
     low: u64,
     /// All bits are set in a vacant place.
     rest: u64,
@@ -120,75 +119,91 @@ impl Default for Line {
     }
 }
 
-/// A name's own place is where it is sought first. The others of its line come after it.
+/// Where a name is sought first, and what its place has with the index 0.
+///
+/// A name's product is the sum of its words' products with the factors. The first bits of the
+/// product say which place is the name's own. The others are the first bits of `rest`. The high
+/// word's factor is odd, so own place, rest and low word are those of one name alone.
+///
+/// The last bits of `rest` have the index. In the other places of the line, which are told by the
+/// bits in which they differ from the own one, there are `registries` more for each step.
 struct Sought {
     line: usize,
     own: usize,
-    /// With the index 0.
     place: Place,
 }
 
 /// What one thread's handle remembers of its table's choice, so that it hashes few names twice.
 pub struct Memory {
+    factors: [u64; 2],
+    registries: u64,
+    /// A power of two.
     lines: Box<[Line]>,
-    /// Of a name's product, which are the number of its line.
-    line_bits: u32,
     /// Names, while all places of their line were taken.
     missed: Cell<u32>,
 }
 
 impl Memory {
     /// The index of the name's registry, which is hashed only if it isn't remembered.
-    #[inline]
+    #[inline(always)]
     pub fn index(&self, choice: &Choice, key: Key) -> usize {
-        if choice.registries == 1 {
+        if self.registries == 1 {
             return 0;
         }
-        let sought = self.sought(choice, key);
-        let own = self.place(&sought, 0).get();
-        match index_at(own, &sought) {
-            Some(index) if index < choice.registries => index,
-            _ => self.found_further(choice, key),
+        let index = self.index_at(&self.sought(key), 0);
+        if index < self.registries {
+            index as usize
+        } else {
+            self.found_further(choice, key)
         }
     }
 
-    #[inline]
-    fn sought(&self, choice: &Choice, key: Key) -> Sought {
+    #[inline(always)]
+    fn sought(&self, key: Key) -> Sought {
         let ffi::Name { high, low } = key.words;
-        let [one, other] = choice.factors;
+        let [one, other] = self.factors;
         let product = high.wrapping_mul(one).wrapping_add(low.wrapping_mul(other));
-        let number = (product >> (u64::BITS - 2 - self.line_bits)) as usize;
-        let place = Place { low, rest: product << self.line_bits };
-        Sought { line: number / WAYS, own: number % WAYS, place }
+        let both = u128::from(product) * (self.lines.len() * WAYS) as u128;
+        let (own, rest) = ((both >> u64::BITS) as usize, both as u64);
+        Sought { line: own / WAYS, own: own % WAYS, place: Place { low, rest } }
     }
 
-    #[inline]
+    #[inline(always)]
     fn place(&self, sought: &Sought, way: usize) -> &Cell<Place> {
         &self.lines[sought.line].0[sought.own ^ way]
+    }
+
+    /// The index in a place of the sought name's line, if the place has the name; else a larger
+    /// number than any index.
+    #[inline(always)]
+    fn index_at(&self, sought: &Sought, way: usize) -> u64 {
+        let place = self.place(sought, way).get();
+        if place.low != sought.place.low {
+            return u64::MAX;
+        }
+        (place.rest ^ sought.place.rest).wrapping_sub(way as u64 * self.registries)
     }
 
     /// The index of a name that isn't in its own place. It stands apart: it is seldom called.
     #[inline(never)]
     fn found_further(&self, choice: &Choice, key: Key) -> usize {
-        let sought = self.sought(choice, key);
-        let found = (1..WAYS)
-            .filter_map(|way| index_at(self.place(&sought, way).get(), &sought))
-            .find(|index| *index < choice.registries);
-        found.unwrap_or_else(|| {
-            let index = choice.index(key);
-            self.remember(&sought, index);
-            index
-        })
+        let sought = self.sought(key);
+        let mut ways = (1..WAYS).map(|way| self.index_at(&sought, way));
+        let found = ways.find(|index| *index < self.registries);
+        found.map_or_else(|| self.hashed(choice, key, &sought), |index| index as usize)
     }
 
-    /// Remembers an index, if its line has a vacant place, or has missed many names.
-    fn remember(&self, sought: &Sought, index: usize) {
+    /// The index of a name that no place has. It is remembered, if the name's line has a vacant
+    /// place, or has missed many names.
+    fn hashed(&self, choice: &Choice, key: Key, sought: &Sought) -> usize {
+        let index = choice.index(key);
         let Place { low, rest } = sought.place;
-        let vacant =
-            (0..WAYS).map(|way| self.place(sought, way)).find(|at| at.get().rest == u64::MAX);
-        if let Some(place) = vacant.or_else(|| self.is_due().then(|| self.place(sought, 0))) {
-            place.set(Place { low, rest: rest | index as u64 });
+        let vacant = (0..WAYS).find(|way| self.place(sought, *way).get().rest == u64::MAX);
+        if let Some(way) = vacant.or_else(|| self.is_due().then_some(0)) {
+            let rest = rest | (way as u64 * self.registries + index as u64);
+            self.place(sought, way).set(Place { low, rest });
         }
+        index
     }
 
     /// Counts a name that misses a full line: whether it gets a place.
@@ -198,16 +213,9 @@ impl Memory {
     }
 }
 
-/// The index that a place has, if it has the name; any larger number is none.
-#[inline]
-fn index_at(place: Place, sought: &Sought) -> Option<usize> {
-    let index = place.rest ^ sought.place.rest;
-    (place.low == sought.place.low).then_some(index as usize)
-}
-
 #[cfg(test)]
 mod tests {
-    use super::{index_at, Choice, Memory, PATIENCE, WAYS};
+    use super::{Choice, Memory, PATIENCE, WAYS};
     use crate::{ffi, Key, Kind};
     use std::collections::hash_map::DefaultHasher;
     use std::hash::Hasher;
@@ -249,11 +257,10 @@ mod tests {
     }
 
     /// The index that a memory has of a name.
-    fn remembered(memory: &Memory, choice: &Choice, key: Key) -> Option<usize> {
-        let sought = memory.sought(choice, key);
-        (0..WAYS)
-            .filter_map(|way| index_at(memory.place(&sought, way).get(), &sought))
-            .find(|index| *index < choice.registries)
+    fn remembered(memory: &Memory, key: Key) -> Option<u64> {
+        let sought = memory.sought(key);
+        let mut ways = (0..WAYS).map(|way| memory.index_at(&sought, way));
+        ways.find(|index| *index < memory.registries)
     }
 
     /// What makes 1 of an odd number as a factor.
@@ -261,12 +268,15 @@ mod tests {
         (0..6).fold(odd, |near, _| near.wrapping_mul(2_u64.wrapping_sub(odd.wrapping_mul(near))))
     }
 
-    /// Names of one product, of products that differ a little, and with different first bytes.
+    /// Names of one product, of products that differ a little, also only in which place of a line
+    /// is the own one, and with different first bytes.
     fn names_of_near_products(choice: &Choice) -> impl Iterator<Item = Key> {
         let [one, other] = choice.factors;
         let unit = inverse(one);
         assert_eq!(one.wrapping_mul(unit), 1);
-        let steps = [(unit, 0), (unit << 20, 0), (1 << 56, 0)];
+        let places = choice.memory().lines.len() * WAYS;
+        let next_place = unit << (u64::BITS - places.trailing_zeros());
+        let steps = [(unit, 0), (unit << 20, 0), (next_place, 0), (1 << 56, 0)];
         let same = (0_u64.wrapping_sub(other.wrapping_mul(unit)), 1);
         steps.into_iter().chain([same]).flat_map(|(high, low)| {
             (1..40).map(move |step: u64| key(high.wrapping_mul(step), low * step + 1))
@@ -287,7 +297,7 @@ mod tests {
         let mut found = 0;
         for key in names.iter().chain(&names).chain(names.iter().rev()) {
             for (memory, choice) in memories.iter().zip(&choices) {
-                found += usize::from(remembered(memory, choice, *key).is_some());
+                found += usize::from(remembered(memory, *key).is_some());
                 assert_eq!(memory.index(choice, *key), choice.index(*key), "{key:?}");
             }
         }
@@ -299,12 +309,12 @@ mod tests {
     fn a_line_is_patient() {
         let choice = Choice::of(600);
         let memory = choice.memory();
-        let sought = |key: &Key| memory.sought(&choice, *key);
+        let sought = |key: &Key| memory.sought(*key);
         let is_first = |key: &Key| (sought(key).line, sought(key).own) == (0, 0);
         let all = (1..).map(|high| key(high, 1));
         let names: Vec<Key> = all.filter(is_first).take(WAYS + 2).collect();
         names.iter().for_each(|name| assert_eq!(memory.index(&choice, *name), choice.index(*name)));
-        let has = |name: &Key| remembered(&memory, &choice, *name).is_some();
+        let has = |name: &Key| remembered(&memory, *name).is_some();
         assert!(names[..WAYS].iter().all(has) && !names[WAYS..].iter().any(has));
         let again = names.iter().take(WAYS).cycle().take(100);
         again.for_each(|name| assert!(memory.index(&choice, *name) < choice.registries));

@@ -28,7 +28,7 @@
 //!
 //! | To | call |
 //! |---|---|
-//! | open | [`Registry::open`], with [`Settings`]; [`Registry::open_tracked`] to see [who holds](Registry::holders) an entry |
+//! | open | [`Registry::open`], with [`Settings`]; [`Registry::open_tracked`] or [`Table::open_tracked`] to see [who holds](Registry::holders) an entry |
 //! | look up | [`Registry::get`] for a [`LocalRef`]; on a CPU of one's own [`Cpu::read`] for the entry with its section, and [`Cpu::get`] for a [`PassiveRef`] |
 //! | look several up | [`Cpu::enter`], then [`Section::find`] or [`Section::entries`]; to hold one longer [`Found::acquire`] or [`Found::acquire_local`] |
 //! | change | [`Registry::attach`], [`attach_iface`](Registry::attach_iface), [`detach`](Registry::detach), [`detach_entry`](Registry::detach_entry), [`replace`](Registry::replace), [`replace_iface`](Registry::replace_iface) |

@@ -1,5 +1,6 @@
 //! Who holds an entry, by place: what a registry that was opened by
-//! [`Registry::open_tracked`](crate::Registry::open_tracked) notes of each reference and section.
+//! [`Registry::open_tracked`](crate::Registry::open_tracked) notes of each reference and section. A
+//! table of [`Table::open_tracked`](crate::Table::open_tracked) has such registries.
 
 use crate::values::Entry;
 use std::collections::HashMap;
@@ -49,7 +50,7 @@ impl fmt::Display for Place {
     }
 }
 
-/// All places that hold an entry: [`Registry::holders`](crate::Registry::holders).
+/// All places that hold an entry: [`Registry::holders`](crate::Registry::holders), and a table's.
 #[derive(Clone, Debug, Default, PartialEq, Eq, Hash)]
 #[non_exhaustive]
 pub struct Holders {

@@ -390,7 +390,7 @@ impl<T> Cpu<T> {
     /// # Errors
     ///
     /// `SectionsSpent` outside a section, `NotFound`.
-    #[inline]
+    #[inline(always)]
     pub fn look_up(&self, key: impl Into<Key>) -> Result<Entry, LookUpError> {
         let tasks = self.tasks();
         // SAFETY: it is such a call.

@@ -1,11 +1,13 @@
 //! A table of any number of names, over registries.
 
+use crate::changes::Changed;
 use crate::choice::{Choice, Memory};
 use crate::cpu::Cpu;
 use crate::error::{AttachError, CloseError, CpusError, DetachError, LookUpError, OpenError};
 use crate::error::{Refused, SynchronizeError};
 use crate::name::Key;
 use crate::patience::{Patience, Pauses};
+use crate::places::Holders;
 use crate::references::{LocalRef, PassiveRef};
 use crate::registry::{Drained, Registry};
 use crate::retired::Retired;
@@ -45,24 +47,26 @@ pub struct Table<T> {
     choice: Choice,
 }
 
-/// What an attach returns that a registry has refused.
-fn judged<'a, T: 'a>(
-    choice: &Choice,
-    refused: Refused<AttachError, T>,
-    mut all: impl Iterator<Item = &'a Arc<Shared<T>>>,
-) -> Refused<AttachError, T> {
-    let mut left = u64::from(choice.entries);
-    let mut has_room = || {
-        all.all(|shared| {
-            left = left.saturating_sub(shared.kept().occupied() as u64);
-            left > 0
-        })
-    };
-    match refused.refusal {
-        AttachError::NoSlot if choice.registries > 1 && has_room() => {
-            Refused { refusal: AttachError::Crowded, ..refused }
+impl Choice {
+    /// What an attach returns that one of these registries has refused.
+    fn judged<'a, T: 'a>(
+        &self,
+        refused: Refused<AttachError, T>,
+        mut all: impl Iterator<Item = &'a Arc<Shared<T>>>,
+    ) -> Refused<AttachError, T> {
+        let mut left = u64::from(self.entries);
+        let mut has_room = || {
+            all.all(|shared| {
+                left = left.saturating_sub(shared.kept().occupied() as u64);
+                left > 0
+            })
+        };
+        match refused.refusal {
+            AttachError::NoSlot if self.registries > 1 && has_room() => {
+                Refused { refusal: AttachError::Crowded, ..refused }
+            }
+            _ => refused,
         }
-        _ => refused,
     }
 }
 
@@ -76,21 +80,44 @@ impl<T> Table<T> {
     /// `OtherLimits`, `BadSettings` for no thread, more than a registry's most CPUs, or no entry,
     /// `NoMemory`.
     pub fn open(threads: u8, entries: u32) -> Result<Table<T>, OpenError> {
+        Table::opened(threads, entries, Registry::open)
+    }
+
+    /// Opens a table that notes the line of the program, and the thread, of each reference that is
+    /// acquired and each section that is entered, as [`Registry::open_tracked`] does.
+    /// [`holders`](Table::holders) says so, and so does the error of a destroy that gives up.
+    ///
+    /// # Errors
+    ///
+    /// As of [`open`](Table::open).
+    pub fn open_tracked(threads: u8, entries: u32) -> Result<Table<T>, OpenError> {
+        Table::opened(threads, entries, Registry::open_tracked)
+    }
+
+    fn opened(
+        threads: u8,
+        entries: u32,
+        open: impl Fn(Settings) -> Result<Registry<T>, OpenError>,
+    ) -> Result<Table<T>, OpenError> {
         let choice = Choice::of(entries);
         let settings = Settings::new(threads, choice.slots);
-        let open = |_| match threads {
+        let open_one = |_| match threads {
             0 => Err(OpenError::BadSettings),
-            _ => Registry::open(settings),
+            _ => open(settings),
         };
-        let registries = (0..choice.registries).map(open).collect::<Result<_, _>>()?;
+        let registries = (0..choice.registries).map(open_one).collect::<Result<_, _>>()?;
         Ok(Table { registries, choice })
     }
 
-    /// Makes a call of the registry that a name chooses.
-    #[inline]
-    fn on<'a, R>(&'a self, key: impl Into<Key>, call: impl FnOnce(&'a Registry<T>, Key) -> R) -> R {
+    /// The registry that a name chooses, and the name.
+    #[inline(always)]
+    fn of(&self, key: impl Into<Key>) -> (&Registry<T>, Key) {
         let key = key.into();
-        call(&self.registries[self.choice.index(key)], key)
+        (&self.registries[self.choice.index(key)], key)
+    }
+
+    fn shared(&self) -> impl Iterator<Item = &Arc<Shared<T>>> {
+        self.registries.iter().map(Registry::shared)
     }
 
     /// The registry that an entry is of, and its index.
@@ -136,58 +163,11 @@ impl<T> Table<T> {
     /// # Errors
     ///
     /// As of that call.
-    #[inline]
+    #[inline(always)]
+    #[track_caller]
     pub fn get(&self, key: impl Into<Key>) -> Result<LocalRef<T>, LookUpError> {
-        self.on(key, Registry::get)
-    }
-
-    /// As [`Registry::look_up`].
-    ///
-    /// # Errors
-    ///
-    /// As of that call.
-    #[inline]
-    pub fn look_up(&self, key: impl Into<Key>) -> Result<Entry, LookUpError> {
-        self.on(key, Registry::look_up)
-    }
-
-    /// As [`Registry::attach`].
-    ///
-    /// # Errors
-    ///
-    /// As of that call. `NoSlot` says that the table has as many entries as it was opened for, or
-    /// more. [`Crowded`](AttachError::Crowded) says that the registry of this name is full, and the
-    /// table isn't. The probability that any of R registries is full of names that were chosen
-    /// without the secret, with m in each on average, is below R (e/4)^m / sqrt(4 pi m), which is
-    /// below 10^-12 for each size.
-    pub fn attach(&self, key: impl Into<Key>, value: T) -> Result<Entry, Refused<AttachError, T>> {
-        self.on(key, |its, key| its.attach(key, value)).map_err(|refused| self.judged(refused))
-    }
-
-    /// As [`Registry::replace`].
-    ///
-    /// # Errors
-    ///
-    /// As of that call, and `Crowded` as [`attach`](Table::attach).
-    pub fn replace(
-        &self,
-        key: impl Into<Key>,
-        value: T,
-    ) -> Result<(Entry, Retired<T>), Refused<AttachError, T>> {
-        self.on(key, |its, key| its.replace(key, value)).map_err(|refused| self.judged(refused))
-    }
-
-    fn judged(&self, refused: Refused<AttachError, T>) -> Refused<AttachError, T> {
-        judged(&self.choice, refused, self.registries.iter().map(Registry::shared))
-    }
-
-    /// As [`Registry::detach`].
-    ///
-    /// # Errors
-    ///
-    /// As of that call.
-    pub fn detach(&self, key: impl Into<Key>) -> Result<Retired<T>, DetachError> {
-        self.on(key, Registry::detach)
+        let (its, key) = self.of(key);
+        its.get(key)
     }
 
     /// As [`Registry::detach_entry`].
@@ -198,15 +178,6 @@ impl<T> Table<T> {
     pub fn detach_entry(&self, entry: &Entry) -> Result<Retired<T>, DetachError> {
         let (_, registry) = self.registry_of(entry).ok_or(DetachError::NotFound)?;
         registry.detach_entry(entry)
-    }
-
-    /// As [`Registry::retire`]: it returns what is free by then of the name's registry.
-    ///
-    /// # Errors
-    ///
-    /// As of that call.
-    pub fn retire(&self, key: impl Into<Key>) -> Result<Vec<Freed<T>>, DetachError> {
-        self.on(key, Registry::retire)
     }
 
     /// As [`Registry::free_deferred`], of all registries.
@@ -239,6 +210,24 @@ impl<T> Table<T> {
     pub fn number(&self, entry: &Entry) -> Option<u64> {
         let (index, _) = self.registry_of(entry)?;
         Some(self.choice.number(entry.number, index))
+    }
+
+    /// As [`Registry::holders`], if the table was opened by [`open_tracked`](Table::open_tracked).
+    ///
+    /// ```
+    /// use kupaldiz::Table;
+    ///
+    /// let table = Table::open_tracked(1, 1000).unwrap();
+    /// let entry = table.attach("wm", ()).unwrap();
+    /// let held = table.get("wm").unwrap();
+    /// let holders = table.holders(&entry).unwrap();
+    /// assert!(holders.to_string().starts_with("1 local reference: src/"));
+    /// drop(held);
+    /// assert_eq!(table.holders(&entry).unwrap().to_string(), "nobody");
+    /// ```
+    pub fn holders(&self, entry: &Entry) -> Option<Holders> {
+        let (_, registry) = self.registry_of(entry).unwrap_or((0, &self.registries[0]));
+        registry.holders(entry)
     }
 
     /// What the counts say of an entry, live or retired, as [`Registry::audit`] does. It needs all
@@ -337,11 +326,15 @@ pub struct TableThread<T> {
 }
 
 impl<T> TableThread<T> {
-    /// Makes a call on the CPU of the registry that a name chooses.
-    #[inline]
-    fn on<'a, R>(&'a self, key: impl Into<Key>, call: impl FnOnce(&'a Cpu<T>, Key) -> R) -> R {
+    /// The CPU of the registry that a name chooses, and the name.
+    #[inline(always)]
+    fn of(&self, key: impl Into<Key>) -> (&Cpu<T>, Key) {
         let key = key.into();
-        call(&self.cpus[self.memory.index(&self.choice, key)], key)
+        (&self.cpus[self.memory.index(&self.choice, key)], key)
+    }
+
+    fn shared(&self) -> impl Iterator<Item = &Arc<Shared<T>>> {
+        self.cpus.iter().map(Cpu::shared)
     }
 
     /// Its number, from 0: that of its CPUs, which the error of a destroy names.
@@ -354,9 +347,11 @@ impl<T> TableThread<T> {
     /// # Errors
     ///
     /// As of that call.
-    #[inline]
+    #[inline(always)]
+    #[track_caller]
     pub fn get(&self, key: impl Into<Key>) -> Result<PassiveRef<'_, T>, LookUpError> {
-        self.on(key, Cpu::get)
+        let (its, key) = self.of(key);
+        its.get(key)
     }
 
     /// As [`Cpu::get_local`]: a local reference, which may go to other threads.
@@ -364,9 +359,11 @@ impl<T> TableThread<T> {
     /// # Errors
     ///
     /// As of that call.
-    #[inline]
+    #[inline(always)]
+    #[track_caller]
     pub fn get_local(&self, key: impl Into<Key>) -> Result<LocalRef<T>, LookUpError> {
-        self.on(key, Cpu::get_local)
+        let (its, key) = self.of(key);
+        its.get_local(key)
     }
 
     /// As [`Cpu::read`]: the entry with a section of its registry.
@@ -374,63 +371,11 @@ impl<T> TableThread<T> {
     /// # Errors
     ///
     /// As of that call.
-    #[inline]
+    #[inline(always)]
+    #[track_caller]
     pub fn read(&self, key: impl Into<Key>) -> Result<ReadGuard<'_, T>, LookUpError> {
-        self.on(key, Cpu::read)
-    }
-
-    /// As [`Cpu::look_up`].
-    ///
-    /// # Errors
-    ///
-    /// As of that call.
-    #[inline]
-    pub fn look_up(&self, key: impl Into<Key>) -> Result<Entry, LookUpError> {
-        self.on(key, Cpu::look_up)
-    }
-
-    /// As [`Table::attach`], on this thread's CPU.
-    ///
-    /// # Errors
-    ///
-    /// As of that call.
-    pub fn attach(&self, key: impl Into<Key>, value: T) -> Result<Entry, Refused<AttachError, T>> {
-        self.on(key, |cpu, key| cpu.attach(key, value)).map_err(|refused| self.judged(refused))
-    }
-
-    /// As [`Table::replace`], on this thread's CPU.
-    ///
-    /// # Errors
-    ///
-    /// As of that call.
-    pub fn replace(
-        &self,
-        key: impl Into<Key>,
-        value: T,
-    ) -> Result<(Entry, Retired<T>), Refused<AttachError, T>> {
-        self.on(key, |cpu, key| cpu.replace(key, value)).map_err(|refused| self.judged(refused))
-    }
-
-    fn judged(&self, refused: Refused<AttachError, T>) -> Refused<AttachError, T> {
-        judged(&self.choice, refused, self.cpus.iter().map(Cpu::shared))
-    }
-
-    /// As [`Table::detach`], on this thread's CPU.
-    ///
-    /// # Errors
-    ///
-    /// As of that call.
-    pub fn detach(&self, key: impl Into<Key>) -> Result<Retired<T>, DetachError> {
-        self.on(key, Cpu::detach)
-    }
-
-    /// As [`Table::retire`], on this thread's CPU.
-    ///
-    /// # Errors
-    ///
-    /// As of that call.
-    pub fn retire(&self, key: impl Into<Key>) -> Result<Vec<Freed<T>>, DetachError> {
-        self.on(key, Cpu::retire)
+        let (its, key) = self.of(key);
+        its.read(key)
     }
 
     /// Makes this of each live entry, one registry after another, each in a section of its own. An
@@ -440,6 +385,7 @@ impl<T> TableThread<T> {
     /// # Errors
     ///
     /// `TooDeep`, `SectionsSpent`. Some entries may have been met then.
+    #[track_caller]
     pub fn for_each(&self, mut deed: impl FnMut(Found<'_, '_, T>)) -> Result<(), LookUpError> {
         for cpu in self.cpus.iter() {
             cpu.enter()?.entries().for_each(&mut deed);
@@ -458,6 +404,76 @@ impl<T> TableThread<T> {
         self.cpus.iter().try_for_each(|cpu| cpu.synchronize(patience))
     }
 }
+
+/// The calls with a name that a table and a thread's handle have alike. Each is the same call of the
+/// registry that the name chooses, or of the thread's CPU of it.
+macro_rules! calls_by_name {
+    ($($of:ident over $its:ident)*) => {$(
+        impl<T> $of<T> {
+            #[doc = concat!("As [`", stringify!($its), "::look_up`].")]
+            ///
+            /// # Errors
+            ///
+            /// As of that call.
+            #[inline(always)]
+            pub fn look_up(&self, key: impl Into<Key>) -> Result<Entry, LookUpError> {
+                let (its, key) = self.of(key);
+                its.look_up(key)
+            }
+
+            #[doc = concat!("As [`", stringify!($its), "::attach`].")]
+            ///
+            /// # Errors
+            ///
+            /// As of that call. `NoSlot` says that the table has as many entries as it was opened
+            /// for, or more. [`Crowded`](AttachError::Crowded) says that the registry of this name
+            /// is full, and the table isn't. R registries have m names each on average. The names
+            /// are chosen without the secret. Then the probability that any registry is full is
+            /// below R (e/4)^m / sqrt(4 pi m). This is below 10^-12 for each size.
+            pub fn attach(&self, key: impl Into<Key>, value: T) -> Changed<T> {
+                let (its, key) = self.of(key);
+                its.attach(key, value).map_err(|refused| self.choice.judged(refused, self.shared()))
+            }
+
+            #[doc = concat!("As [`", stringify!($its), "::replace`].")]
+            ///
+            /// # Errors
+            ///
+            /// As of that call, and `Crowded` as [`attach`](Self::attach).
+            pub fn replace(
+                &self,
+                key: impl Into<Key>,
+                value: T,
+            ) -> Changed<T, (Entry, Retired<T>)> {
+                let (its, key) = self.of(key);
+                its.replace(key, value).map_err(|refused| self.choice.judged(refused, self.shared()))
+            }
+
+            #[doc = concat!("As [`", stringify!($its), "::detach`].")]
+            ///
+            /// # Errors
+            ///
+            /// As of that call.
+            pub fn detach(&self, key: impl Into<Key>) -> Result<Retired<T>, DetachError> {
+                let (its, key) = self.of(key);
+                its.detach(key)
+            }
+
+            #[doc = concat!("As [`", stringify!($its), "::retire`]: it returns what is free by then")]
+            /// of the name's registry.
+            ///
+            /// # Errors
+            ///
+            /// As of that call.
+            pub fn retire(&self, key: impl Into<Key>) -> Result<Vec<Freed<T>>, DetachError> {
+                let (its, key) = self.of(key);
+                its.retire(key)
+            }
+        }
+    )*};
+}
+
+calls_by_name! { Table over Registry TableThread over Cpu }
 
 impl<T> fmt::Debug for TableThread<T> {
     fn fmt(&self, f: &mut fmt::Formatter<'_>) -> fmt::Result {
@@ -484,6 +500,9 @@ mod tests {
         let ids: Vec<u64> = (0..).filter(in_first).take(148).collect();
         let (last, first) = ids.split_last().unwrap();
         first.iter().for_each(|id| assert!(table.attach(*id, *id).is_ok()));
+        // In a table with another secret they are spread.
+        let other = Table::open(1, 1100).unwrap();
+        ids.iter().for_each(|id| assert!(other.attach(*id, *id).is_ok()));
         let refused = table.attach(*last, 7).unwrap_err();
         assert_eq!((refused.refusal, refused.given), (AttachError::Crowded, 7));
         assert_eq!(thread.attach(*last, 7).unwrap_err().refusal, AttachError::Crowded);

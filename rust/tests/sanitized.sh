@@ -9,7 +9,15 @@
 # tests run under the address sanitizer alone.
 #
 # It takes options of rustc that aren't stable, and so RUSTC_BOOTSTRAP; and a compiler that has the
-# sanitizers, as rustup's has: `sanitized.sh --has` only says by its status whether this one has.
+# sanitizers, as rustup's has.
+#
+#     sanitized.sh has          says by its status whether this one has
+#     sanitized.sh quiet        no race is reported
+#     sanitized.sh find         a race is reported where a find isn't after its attach
+#     sanitized.sh freed        a race is reported where a value isn't freed after its last use
+#     sanitized.sh table        no race is reported of the threads of a table
+#     sanitized.sh table-find   one is reported there where a find isn't after its attach
+#     sanitized.sh address      no access out of bounds, or of what was freed
 set -u
 cd "$(dirname "$0")/.." || exit
 export KUPALDIZ_LIB_DIR="${KUPALDIZ_LIB_DIR:-$PWD/../out}" RUSTC_BOOTSTRAP=1
@@ -20,9 +28,9 @@ if ! ls "$libraries"/librustc-*_rt.tsan.a >/dev/null 2>&1; then
     echo "this rustc has no sanitizers"
     exit 1
 fi
-[ "${1-}" != --has ] || exit 0
 flags="$(tests/watching.sh) -Cunsafe-allow-abi-mismatch=sanitizer"
 mkdir -p "$CARGO_TARGET_DIR"
+said=$CARGO_TARGET_DIR/said
 # What the sanitizer can't see of libtest, and of the fence that ends the last share of an Arc.
 printf 'race:CompletedTest\nrace:drop_slow\n' >"$CARGO_TARGET_DIR/suppressed"
 # Some tests forget on purpose.
@@ -30,53 +38,40 @@ export TSAN_OPTIONS="suppressions=$CARGO_TARGET_DIR/suppressed" ASAN_OPTIONS=det
 
 # run SANITIZER FLAGS TEST..: runs these tests under it.
 run() {
-    export RUSTFLAGS="$flags -Zsanitizer=$1 $2"
-    shift 2
-    cargo test -q --offline --target $target "$@" >"$CARGO_TARGET_DIR/said" 2>&1
+    RUSTFLAGS="$flags -Zsanitizer=$1 $2" cargo test -q --offline --target $target "${@:3}" >"$said" 2>&1
 }
 
-# races EDGE: whether a run without this edge reports a race of a value. Four threads are enough: 64
-# that try a lock again and again take minutes.
-races() {
-    export KUPALDIZ_WITHOUT="$1"
-    run thread "--cfg kupaldiz_edges" --test together -- --skip all_cpus
-    status=$?
-    grep -q 'data race.*Tracked' "$CARGO_TARGET_DIR/said"
+# run_without EDGE: a run without this edge. Four threads are enough: 64 that try a lock again and
+# again take minutes.
+run_without() {
+    KUPALDIZ_WITHOUT="$1" run thread "--cfg kupaldiz_edges" --test together -- --skip all_cpus
 }
 
-# Whether one of a few such runs does: with few changes not each of them meets a race.
-soon_races() {
-    local _
-    for _ in 1 2 3 4 5 6 7 8; do
-        ! races "$1" || return 0
+# Whether runs without this edge come to a race of a value: with few changes not each does.
+comes_to_race() {
+    until run_without "$1"; grep -q 'data race.*Tracked' "$said"; do
+        grep -qE 'data race|test result: ok' "$said" || return 1
     done
-    return 1
 }
 
-# Whether a run with both edges reports nothing.
-is_quiet() {
-    ! races none && [ "$status" -eq 0 ]
+# in_a_table EDGE: the random calls of a table's threads, without this edge.
+in_a_table() {
+    KUPALDIZ_WITHOUT="$1" run thread "--cfg kupaldiz_edges" --test table -- random_calls
 }
 
-passed=0
-failed=0
-# judge TEXT COMMAND..: says whether the command was right.
-judge() {
-    if "${@:2}"; then
-        passed=$((passed + 1))
-        echo "ok      $1"
-    else
-        failed=$((failed + 1))
-        echo "FAILED  $1"
-        tail -n 30 "$CARGO_TARGET_DIR/said"
-    fi
+# Whether they report a race without this edge.
+races_in_a_table() {
+    ! in_a_table "$1" && grep -q 'data race' "$said"
 }
 
-judge "no race is reported" is_quiet
-judge "a race is reported where a find isn't after its attach" soon_races find
-judge "a race is reported where a value isn't freed after its last use" soon_races freed
-judge "no access out of bounds, or of what was freed" run address "" \
-    --test carried --test face --test foreign --test leaving --test loans --test model \
-    --test together
-echo "$passed passed, $failed failed"
-[ "$failed" -eq 0 ]
+case ${1-} in
+has) exit ;;
+quiet) run_without none ;;
+find | freed) comes_to_race "$1" ;;
+table) in_a_table none ;;
+table-find) races_in_a_table find ;;
+address)
+    run address "" --test carried --test face --test foreign --test leaving --test loans --test model \
+        --test table --test together ;;
+*) echo "usage: sanitized.sh has|quiet|find|freed|table|table-find|address" >"$said" && false ;;
+esac || { tail -n 30 "$said"; exit 1; }

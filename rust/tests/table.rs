@@ -5,13 +5,14 @@ mod common;
 
 use common::Dice;
 use kupaldiz::{
-    AttachError, CloseError, CpusError, DestroyError, DetachError, Holder, LookUpError,
+    AttachError, CloseError, CpusError, DestroyError, DetachError, Hold, Holder, LookUpError,
 };
 use kupaldiz::{Found, LocalRef, Patience, Refused, SynchronizeError, Table, TableThread};
 use std::collections::{HashMap, HashSet};
 use std::sync::atomic::{AtomicUsize, Ordering};
-use std::sync::{Arc, Mutex};
+use std::sync::{Arc, Mutex, MutexGuard};
 use std::thread;
+use std::time::Duration;
 
 const THREADS: u64 = 8;
 const ENTRIES: u32 = 10_000;
@@ -40,6 +41,16 @@ impl Drop for Value {
 
 /// Local references on their way from thread to thread.
 type Travelling = Mutex<Vec<LocalRef<Value>>>;
+
+/// A lock's value. The thread sanitizer doesn't see how the standard library waits.
+fn locked<T>(mutex: &Mutex<T>) -> MutexGuard<'_, T> {
+    loop {
+        match mutex.try_lock() {
+            Ok(guard) => return guard,
+            Err(_) => thread::sleep(Duration::from_micros(10)),
+        }
+    }
+}
 
 /// A thread that alone changes the names of its own, of which its map says what the table has: the
 /// age of each value.
@@ -133,7 +144,7 @@ impl Worker<'_> {
         let taken = match got {
             Ok(local) => {
                 assert_eq!(local.id, id);
-                let mut places = self.travelling.lock().unwrap();
+                let mut places = locked(self.travelling);
                 places.push(local);
                 let oldest = places.len() > 64;
                 oldest.then(|| places.swap_remove(0))
@@ -246,6 +257,43 @@ fn whoever_removes_learns_who_holds() {
     drop(guard);
     assert_eq!(one.synchronize(Patience::Forever), Ok(()));
     assert_eq!(table.look_up("wm"), Ok(entry));
+}
+
+/// The lines that hold an entry are the program's own, also of an entry whose registry has others
+/// with the same number; and the error of a destroy has them.
+#[test]
+fn each_line_that_holds_an_entry_is_named() {
+    let table = Table::open_tracked(2, 1000).unwrap();
+    let all: Vec<_> = (0..1000).map(|id| table.attach(id, id as usize).unwrap()).collect();
+    let thread = table.thread().unwrap();
+    let lines = |id: usize| {
+        let places = table.holders(&all[id]).unwrap().places;
+        assert!(places.iter().all(|place| place.location.file() == file!()));
+        places.iter().map(|place| (place.hold, place.location.line())).collect::<Vec<_>>()
+    };
+    let first = line!();
+    let one = thread.get(7).unwrap();
+    let two = thread.get_local(7).unwrap();
+    let three = table.get(7).unwrap();
+    let four = thread.read(7).unwrap();
+    let at = |hold| move |line| (hold, first + line);
+    let held = [[4].map(at(Hold::Section)), [1].map(at(Hold::Passive))].concat();
+    assert_eq!(lines(7), [held, [2, 3].map(at(Hold::Local)).to_vec()].concat());
+    drop((one, two, four));
+    assert!((0..1000).all(|id| lines(id).is_empty() == (id != 7)));
+    let refused = table.detach(7).unwrap().try_destroy().unwrap_err();
+    let line = format!("1 local reference: {}:{}", file!(), first + 3);
+    assert!(refused.to_string().contains(&line), "{refused}");
+    drop(three);
+    assert!(refused.given.try_destroy().is_ok() && lines(7).is_empty());
+
+    let walked = line!() + 1;
+    let walk = thread.for_each(|found| assert!(lines(*found).contains(&(Hold::Section, walked))));
+    assert_eq!(walk, Ok(()));
+    let other = Table::<usize>::open(1, 1000).unwrap();
+    assert_eq!(other.holders(&all[0]), None);
+    let foreign = other.attach(0, 0).unwrap();
+    assert!(table.holders(&foreign).unwrap().places.is_empty());
 }
 
 /// More threads than handles take turns.

@@ -17,34 +17,13 @@ sees_weaker_step() {
     catches '^another instruction: ldxr' tools/atomics.py "$room/weaker.o" "$out/ordered-misuse"
 }
 
-# What is Debian's of Rust, for both processors, and what its cargo needs.
-rust_packages() {
-    local version
-    version=$(apt-cache "$@" depends --important libstd-rust-dev | grep -oE 'libstd-rust-[0-9.]+' | head -n 1)
-    echo rustc cargo libstd-rust-dev libstd-rust-dev:arm64 "$version" "$version:arm64"
-    apt-cache "$@" depends --important --recurse cargo | grep -oE '^(libgit2|libssh2|libhttp-parser|libmbed|libcurl3)[^ ]*' | sort -u
-}
-
-# Unpacked, not installed: this machine's own compiler stays as it is.
-fetch_rust() {
-    local room=$PWD/$out/debian deb
-    local options=(-q -o APT::Architectures::=amd64 -o APT::Architectures::=arm64 -o Dir::State::lists="$room/lists" -o Dir::Cache="$room/cache")
-    [ ! -x "$room/usr/bin/cargo" ] || return 0
-    mkdir -p "$room/lists/partial" "$room/cache/archives/partial" "$room/debs" && apt-get "${options[@]}" update || return 1
-    # shellcheck disable=SC2046
-    (cd "$room/debs" && apt-get "${options[@]}" download $(rust_packages "${options[@]:1}")) || return 1
-    for deb in "$room"/debs/*.deb; do dpkg -x "$deb" "$room" || return 1; done
-}
-
 # The crate's tests over the archive for the processor, each program under the emulator: but not those that call the compiler, nor what is seen of a
 # program that ends by a signal. The stress makes fewer changes.
 rust_tests() (
-    local room=$PWD/$out/debian
     cd rust || return
-    local -x KUPALDIZ_CHANGES=1 LD_LIBRARY_PATH=$room/usr/lib/x86_64-linux-gnu RUSTC=$room/usr/bin/rustc CARGO_TARGET_DIR=$PWD/../out/aarch64/rust
-    local -x CARGO_TARGET_AARCH64_UNKNOWN_LINUX_GNU_LINKER=${cross}gcc CARGO_TARGET_AARCH64_UNKNOWN_LINUX_GNU_RUNNER="env -u LD_LIBRARY_PATH $emulator"
-    local -x RUSTFLAGS='-C target-feature=+crt-static'
-    local words=("$room/usr/bin/cargo" test --offline --no-fail-fast --target "aarch64-unknown-linux-gnu")
+    local -x KUPALDIZ_CHANGES=1 CARGO_TARGET_DIR=$PWD/../out/aarch64/rust RUSTFLAGS='-C target-feature=+crt-static'
+    local -x CARGO_TARGET_AARCH64_UNKNOWN_LINUX_GNU_LINKER=${cross}gcc CARGO_TARGET_AARCH64_UNKNOWN_LINUX_GNU_RUNNER=$emulator
+    local words=(cargo test --offline --no-fail-fast --target aarch64-unknown-linux-gnu)
     "${words[@]}" --lib || return 1
     RUSTFLAGS+=" $(tests/watching.sh)"
     # shellcheck disable=SC2046

@@ -8,13 +8,13 @@ test("limits" COUNTED tools/limits.py check)
 test("imports" COUNTED tools/check-imports.py)
 test("table of the events" COUNTED tools/event-table.py check)
 test("pages of the headers" COUNTED tools/header-pages.py check)
-test("pictures" COUNTED tools/draw.py check)
+test("pictures" COUNTED tools/check-pictures.py)
 
 set(GROUP tools)
 test("the tools themselves" PROCESSORS 2 COUNTED tools/test-tools.py)
 
 set(GROUP tutorial)
-test("tutorial" NEEDS built COUNTED tools/test-tutorial.py)
+test("tutorial" NEEDS built COUNTED tools/run-examples.py --steps docs/TUTORIAL-C.md)
 
 # Over the program that `rt ci` or tools/prove-program.sh has proved.
 set(GROUP program)

@@ -2,7 +2,7 @@
 #include "inner.h"
 
 /* Frees those deferred entries of a registry that nothing holds. The caller has its lock. */
-static void free_deferred(struct registry *registry)
+static void free_deferred(struct kupaldiz_table_registry *registry)
 {
 	if (kupaldiz_deferred_count(&registry->deferred) != 0)
 		kupaldiz_deferred_free(&registry->deferred, NULL);
@@ -65,9 +65,9 @@ static enum kupaldiz_result judge_full(struct kupaldiz_cpu *cpu, const struct ch
 }
 
 /* Makes the change in its registry, where deferred entries are freed first. */
-static enum kupaldiz_result change_in(struct seat *seat, const struct change *change)
+static enum kupaldiz_result change_in(struct kupaldiz_table_cpu *seat, const struct change *change)
 {
-	struct registry *registry = seat->registry;
+	struct kupaldiz_table_registry *registry = seat->registry;
 	enum kupaldiz_result result;
 	take(registry);
 	free_deferred(registry);
@@ -81,10 +81,13 @@ static enum kupaldiz_result change_in(struct seat *seat, const struct change *ch
 	return result;
 }
 
-static enum kupaldiz_result make_change(struct member *member, const struct change *change)
+static enum kupaldiz_result make_change(const struct kupaldiz_table_thread *thread,
+    const struct change *change)
 {
-	struct table *table = member->table;
-	struct seat *seat = seat_of_name(member, change->name);
+	struct kupaldiz_table_cpu *seat = seat_of_name(thread, change->name);
+	if (seat->registry == NULL)
+		return KUPALDIZ_EMPTY_HANDLE;
+	struct table *table = seat->registry->table;
 	if (!make_room(table))
 		return judge_full(&seat->cpu, change);
 	enum kupaldiz_result result = change_in(seat, change);
@@ -100,7 +103,7 @@ enum kupaldiz_result kupaldiz_table_attach(const struct kupaldiz_table_thread *t
     const struct kupaldiz_name *name, uint64_t value, struct kupaldiz_entry *made)
 {
 	const struct change change = {.name = name, .value = value, .made = made};
-	return thread->at == NULL ? KUPALDIZ_EMPTY_HANDLE : make_change(thread->at, &change);
+	return make_change(thread, &change);
 }
 
 enum kupaldiz_result kupaldiz_table_replace(const struct kupaldiz_table_thread *thread,
@@ -108,15 +111,15 @@ enum kupaldiz_result kupaldiz_table_replace(const struct kupaldiz_table_thread *
     struct kupaldiz_entry *made)
 {
 	const struct change change = {name, value, true, gone, made};
-	return thread->at == NULL ? KUPALDIZ_EMPTY_HANDLE : make_change(thread->at, &change);
+	return make_change(thread, &change);
 }
 
 enum kupaldiz_result kupaldiz_table_detach(const struct kupaldiz_table_thread *thread,
     const struct kupaldiz_name *name, struct kupaldiz_entry *gone)
 {
-	if (thread->at == NULL)
+	struct kupaldiz_table_cpu *seat = seat_of_name(thread, name);
+	if (seat->registry == NULL)
 		return KUPALDIZ_EMPTY_HANDLE;
-	struct seat *seat = seat_of_name(thread->at, name);
 	take(seat->registry);
 	enum kupaldiz_result result = kupaldiz_detach(&seat->registry->keeper, &seat->cpu,
 	    KUPALDIZ_ENTRY, name, gone);
@@ -130,12 +133,11 @@ enum kupaldiz_result kupaldiz_table_destroy(const struct kupaldiz_table_thread *
     uint64_t number, const struct timespec *deadline, struct kupaldiz_met *met)
 {
 	struct kupaldiz_met last;
-	if (thread->at == NULL)
-		return KUPALDIZ_EMPTY_HANDLE;
-	struct seat *seat = seat_of_number(thread->at, number);
-	if (seat == NULL)
-		return KUPALDIZ_NOT_RETIRED;
-	enum kupaldiz_result result = kupaldiz_destroy_wait(&seat->registry->interlock, &seat->cpu,
+	struct kupaldiz_table_cpu *seat;
+	enum kupaldiz_result result = find_seat(thread, number, KUPALDIZ_NOT_RETIRED, &seat);
+	if (result != KUPALDIZ_DONE)
+		return result;
+	result = kupaldiz_destroy_wait(&seat->registry->interlock, &seat->cpu,
 	    number - seat->number, deadline, &last);
 	if (result == KUPALDIZ_DONE) {
 		note_gone(seat->registry->table);
@@ -147,7 +149,8 @@ enum kupaldiz_result kupaldiz_table_destroy(const struct kupaldiz_table_thread *
 }
 
 /* Adds an entry, as its registry has it, to those that are freed later. */
-static enum kupaldiz_result defer_in(struct registry *registry, const struct kupaldiz_entry *gone)
+static enum kupaldiz_result defer_in(struct kupaldiz_table_registry *registry,
+    const struct kupaldiz_entry *gone)
 {
 	take(registry);
 	enum kupaldiz_result result = kupaldiz_deferred_add(&registry->deferred, gone);
@@ -162,13 +165,11 @@ static enum kupaldiz_result defer_in(struct registry *registry, const struct kup
 enum kupaldiz_result kupaldiz_table_defer(const struct kupaldiz_table_thread *thread,
     const struct kupaldiz_entry *gone)
 {
-	if (thread->at == NULL)
-		return KUPALDIZ_EMPTY_HANDLE;
-	if (gone == NULL)
-		return KUPALDIZ_NULL;
-	const struct seat *seat = seat_of_number(thread->at, gone->number);
-	if (seat == NULL)
-		return KUPALDIZ_NOT_RETIRED;
+	struct kupaldiz_table_cpu *seat;
+	enum kupaldiz_result result = find_seat(thread, gone != NULL ? gone->number : 0,
+	    KUPALDIZ_NOT_RETIRED, &seat);
+	if (result != KUPALDIZ_DONE || gone == NULL)
+		return result != KUPALDIZ_DONE ? result : KUPALDIZ_NULL;
 	struct kupaldiz_entry own = *gone;
 	narrow(seat, &own);
 	return defer_in(seat->registry, &own);

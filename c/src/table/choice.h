@@ -34,9 +34,9 @@ static inline uint64_t divided_up(uint64_t number, uint64_t by)
 }
 
 /*
- * As many registries as there may be, because lists are short then: with m names in each of R on
- * average, R (e/4)^m / sqrt(4 pi m) is below 10^-12 if m is at least 64, and 2 more for each bit of
- * an index.
+ * As many registries as there may be, because lists are short then. With m names in each on
+ * average, the probability that kupaldiz_table.h bounds is below 10^-12 if m is at least 64, and 2
+ * more for each bit of an index.
  */
 static inline uint64_t registries_for(uint64_t entries)
 {
@@ -121,28 +121,15 @@ static inline uint64_t chosen(const struct choice *choice, const struct kupaldiz
 enum { WAYS = 4, PATIENCE = 8 };
 
 /*
- * A name and the index that it chose. A name's product is a sum, whose first bits are the number
- * of its line. `rest` has the product's other bits first, and then the index. The factor of the
- * name's high word is odd, so line, rest and low word are those of one name alone: all of it is
- * compared.
+ * A name's product is the sum of its words' products with the factors. The first bits of the
+ * product say which place is the name's own. The others are the first bits of `rest`. The high
+ * word's factor is odd, so own place, rest and low word are those of one name alone.
+ *
+ * The last bits of `rest` have the index. In the other places of the line, which are told by the
+ * bits in which they differ from the own one, there are `registries` more for each step. All bits
+ * of a vacant place are set. `missed` counts names, while all places of their line were taken. The
+ * header has these structs, and looks into a name's own place alone.
  */
-struct place {
-	uint64_t low;
-	uint64_t rest;	/* all bits are set in a vacant place */
-};
-
-struct memory {
-	struct place *places;
-	unsigned shift;		/* of a product, which leaves the number of the name's own place */
-	unsigned line_bits;	/* of a product, which are the number of its line */
-	uint32_t missed;	/* names, while all places of their line were taken */
-};
-
-/* A name's own place is where it is sought first. The others of its line come after it. */
-struct sought {
-	uint64_t own;
-	struct place as;	/* with the index 0 */
-};
 
 /*
  * Places of each handle's memory, as a power of two: five for two entries, at least. With one
@@ -156,65 +143,55 @@ static inline unsigned place_bits_for(uint64_t entries)
 	return bits;
 }
 
-/* The memory of a handle, in the places of all of them. */
-static inline struct memory memory_of(struct place *all, unsigned place_bits, uint64_t handle)
-{
-	return (struct memory){.places = &all[handle << place_bits], .shift = 64 - place_bits,
-	    .line_bits = place_bits - 2};
-}
-
-static inline struct sought sought_as(const struct memory *memory, const struct choice *choice,
-    const struct kupaldiz_name *name)
+/* A memory, whose places are vacant. */
+static inline struct kupaldiz_table_memory memory_of(const struct choice *choice,
+    unsigned place_bits, struct kupaldiz_table_place *places, struct kupaldiz_table_cpu *cpus)
 {
 	const uint64_t *factors = choice->secret.factors;
-	const uint64_t product = name->high * factors[0] + name->low * factors[1];
-	return (struct sought){product >> memory->shift, {name->low, product << memory->line_bits}};
+	return (struct kupaldiz_table_memory){.factors = {factors[0], factors[1]},
+	    .registries = choice->registries, .count = UINT64_C(1) << place_bits,
+	    .places = places, .cpus = cpus};
 }
 
-/* The index that a place has, if it has the name; else a larger number than any index. */
-static inline uint64_t index_at(const struct place *place, const struct sought *sought)
+/* The index in a place of the sought name's line, if the place has the name; else a larger one. */
+static inline uint64_t index_at(const struct kupaldiz_table_memory *memory,
+    const struct kupaldiz_table_sought *sought, unsigned way)
 {
-	return place->low == sought->as.low ? place->rest ^ sought->as.rest : UINT64_MAX;
+	const struct kupaldiz_table_place *place = &memory->places[sought->own ^ way];
+	if (place->low != sought->as.low)
+		return UINT64_MAX;
+	return (place->rest ^ sought->as.rest) - way * memory->registries;
 }
 
 /* Remembers an index, if its line has a vacant place, or has missed many names. */
-static inline void remember(struct memory *memory, const struct sought *sought, uint64_t index)
+static inline void remember(struct kupaldiz_table_memory *memory,
+    const struct kupaldiz_table_sought *sought, uint64_t index)
 {
-	struct place *place = NULL;
-	for (unsigned way = 0; way < WAYS && place == NULL; way++)
-		if (memory->places[sought->own ^ way].rest == UINT64_MAX)
-			place = &memory->places[sought->own ^ way];
-	if (place == NULL && ++memory->missed % PATIENCE == 0)
-		place = &memory->places[sought->own];
-	if (place != NULL)
-		*place = (struct place){sought->as.low, sought->as.rest | index};
+	unsigned way = 0;
+	while (way < WAYS && memory->places[sought->own ^ way].rest != UINT64_MAX)
+		way++;
+	if (way == WAYS && ++memory->missed % PATIENCE == 0)
+		way = 0;
+	if (way < WAYS)
+		memory->places[sought->own ^ way] = (struct kupaldiz_table_place){sought->as.low,
+		    sought->as.rest | (way * memory->registries + index)};
 }
 
-/* The index of a name that isn't in its own place. It stands apart: it is seldom called. */
-__attribute__((noinline, unused))
-static uint64_t found_further(struct memory *memory, const struct choice *choice,
+/* The index of a name's registry, which is hashed only if it isn't remembered. */
+static inline uint64_t index_for(struct kupaldiz_table_memory *memory, const struct choice *choice,
     const struct kupaldiz_name *name)
 {
-	const struct sought sought = sought_as(memory, choice, name);
-	for (unsigned way = 1; way < WAYS; way++) {
-		const uint64_t index = index_at(&memory->places[sought.own ^ way], &sought);
-		if (index < choice->registries)
+	if (memory->registries == 1)
+		return 0;
+	const struct kupaldiz_table_sought sought = kupaldiz_table_sought_as(memory, name);
+	for (unsigned way = 0; way < WAYS; way++) {
+		const uint64_t index = index_at(memory, &sought, way);
+		if (index < memory->registries)
 			return index;
 	}
 	const uint64_t index = chosen(choice, name);
 	remember(memory, &sought, index);
 	return index;
-}
-
-/* The index of the name's registry, which is hashed only if it isn't remembered. */
-static inline uint64_t recalled(struct memory *memory, const struct choice *choice,
-    const struct kupaldiz_name *name)
-{
-	if (choice->registries == 1)
-		return 0;
-	const struct sought sought = sought_as(memory, choice, name);
-	const uint64_t index = index_at(&memory->places[sought.own], &sought);
-	return index < choice->registries ? index : found_further(memory, choice, name);
 }
 
 #endif

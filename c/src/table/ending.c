@@ -4,7 +4,7 @@
 /* The balances of a registry: their number. Nobody else is in a call with the table. */
 static size_t audit_registry(struct table *table, size_t index)
 {
-	struct registry *registry = &table->registries[index];
+	struct kupaldiz_table_registry *registry = &table->registries[index];
 	size_t length = 0;
 	take(registry);
 	enum kupaldiz_result result = kupaldiz_audit(&registry->keeper, row_of_cpus(table, index),
@@ -21,7 +21,7 @@ enum kupaldiz_result kupaldiz_table_audit(const struct kupaldiz_table *handle, u
 		return KUPALDIZ_EMPTY_HANDLE;
 	if (balance == NULL)
 		return KUPALDIZ_NULL;
-	const struct seat *seat = seat_of_number(table->members, number);
+	const struct kupaldiz_table_cpu *seat = seat_of_number(table->members, number);
 	const size_t length = seat != NULL ? audit_registry(table, index_of(number)) : 0;
 	for (size_t i = 0; i < length; i++) {
 		if (table->balances[i].number != number - seat->number)
@@ -39,7 +39,7 @@ static bool is_referred_to(const struct table *table, size_t index, uint64_t num
 {
 	bool held = false;
 	for (uint64_t i = 0; i < table->threads && !held; i++)
-		kupaldiz_held(&table->members[i].seats[index].cpu, number, &held);
+		kupaldiz_held(&table->members[i].memory.cpus[index].cpu, number, &held);
 	return held;
 }
 

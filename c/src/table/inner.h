@@ -14,7 +14,7 @@
 struct table;
 
 /* One registry of a table, with the lock of its changes and what is deferred in it. */
-struct registry {
+struct kupaldiz_table_registry {
 	struct table *table;
 	struct kupaldiz_keeper keeper;
 	pthread_mutex_t mutex;
@@ -22,19 +22,13 @@ struct registry {
 	struct kupaldiz_deferred deferred;
 };
 
-/* What a member has of one registry: its CPU, and what makes an entry of it one of the table. */
-struct seat {
-	struct kupaldiz_cpu cpu;
-	uint64_t number;	/* the index of the registry, above its own numbers */
-	struct registry *registry;
-	uint64_t slot;		/* slots of the registries before it */
-};
-
-/* What a thread's handle leads to: a seat of each registry, and which one a name chose. */
+/*
+ * What a thread's handle leads to. The memory is first: the header looks there. Its `cpus` are the
+ * member's seats: of each registry a CPU, with its number, which is the registry's index above the
+ * registry's own numbers, and with the slots of the registries before.
+ */
 struct member {
-	_Alignas(64) struct choice choice;
-	struct seat *seats;
-	struct memory memory;
+	_Alignas(64) struct kupaldiz_table_memory memory;
 	struct table *table;
 	struct kupaldiz_entry *row;	/* of a walk */
 	bool walks;
@@ -44,11 +38,11 @@ struct table {
 	struct choice choice;
 	uint64_t threads;
 	uint64_t entries;
-	struct registry *registries;
+	struct kupaldiz_table_registry *registries;
 	struct member *members;
 	struct kupaldiz_entry *rows;	/* of the registries' deferred entries, and of the walks */
-	struct seat *seats;	/* of the members, in their order */
-	struct place *places;	/* of the members' memories */
+	struct kupaldiz_table_cpu *seats;	/* of the members, in their order */
+	struct kupaldiz_table_place *places;	/* of the members' memories */
 	struct kupaldiz_cpu *row;	/* of all CPUs of one registry, for a call that takes them */
 	struct kupaldiz_balance *balances;	/* of an audit */
 	/* The members that threads have, as the first registry's CPUs. */
@@ -62,12 +56,20 @@ struct table {
 
 /* ---- Where a call is made. ---- */
 
-/* The seat of the registry that a name chooses. The call there refuses a name of NULL. */
-static inline struct seat *seat_of_name(struct member *member, const struct kupaldiz_name *name)
+/*
+ * The seat of the registry that a name chooses. It has no registry if the handle is empty: a call
+ * there refuses that, and a name of NULL.
+ */
+static inline struct kupaldiz_table_cpu *seat_of_name(
+    const struct kupaldiz_table_thread *thread, const struct kupaldiz_name *name)
 {
+	static struct kupaldiz_table_cpu none;
+	struct member *member = thread->at;
+	if (member == NULL)
+		return &none;
 	if (name == NULL)
-		return member->seats;
-	return &member->seats[recalled(&member->memory, &member->choice, name)];
+		return member->memory.cpus;
+	return &member->memory.cpus[index_for(&member->memory, &member->table->choice, name)];
 }
 
 /* The index of the registry whose entry has that number; at least `registries` if none has. */
@@ -77,56 +79,58 @@ static inline uint64_t index_of(uint64_t number)
 }
 
 /* The seat of that registry, or NULL. */
-static inline struct seat *seat_of_number(const struct member *member, uint64_t number)
+static inline struct kupaldiz_table_cpu *seat_of_number(const struct member *member,
+    uint64_t number)
 {
 	const uint64_t index = index_of(number);
-	return index < member->choice.registries ? &member->seats[index] : NULL;
+	return index < member->memory.registries ? &member->memory.cpus[index] : NULL;
+}
+
+/* Finds it by a handle. Returns KUPALDIZ_EMPTY_HANDLE, `missing` if there is no such registry. */
+static inline enum kupaldiz_result find_seat(const struct kupaldiz_table_thread *thread,
+    uint64_t number, enum kupaldiz_result missing, struct kupaldiz_table_cpu **seat)
+{
+	if (thread->at == NULL)
+		return KUPALDIZ_EMPTY_HANDLE;
+	*seat = seat_of_number(thread->at, number);
+	return *seat != NULL ? KUPALDIZ_DONE : missing;
 }
 
 /* ---- Entries: a registry's own, and as the table has them. ---- */
 
-/*
- * A compiler that made both in one step would wait for the two stores of the call before. So the
- * two aren't both sums or differences, and lie apart in a seat.
- */
-static inline void widen(const struct seat *seat, struct kupaldiz_entry *entry)
-{
-	entry->number |= seat->number;
-	entry->slot += seat->slot;
-}
-
-static inline void narrow(const struct seat *seat, struct kupaldiz_entry *entry)
+/* What kupaldiz_table_widen has done. */
+static inline void narrow(const struct kupaldiz_table_cpu *seat, struct kupaldiz_entry *entry)
 {
 	entry->number ^= seat->number;
 	entry->slot -= seat->slot;
 }
 
 /* Makes the entry that a call wrote the table's, if it did. Returns what the call did. */
-static inline enum kupaldiz_result widened(const struct seat *seat, enum kupaldiz_result result,
-    struct kupaldiz_entry *entry)
+static inline enum kupaldiz_result widened(const struct kupaldiz_table_cpu *seat,
+    enum kupaldiz_result result, struct kupaldiz_entry *entry)
 {
 	if (result == KUPALDIZ_DONE && entry != NULL)
-		widen(seat, entry);
+		kupaldiz_table_widen(seat, entry);
 	return result;
 }
 
 /* The other way: the entry of a reference that a call didn't release. */
-static inline enum kupaldiz_result kept(const struct seat *seat, enum kupaldiz_result result,
-    struct kupaldiz_entry *entry)
+static inline enum kupaldiz_result kept(const struct kupaldiz_table_cpu *seat,
+    enum kupaldiz_result result, struct kupaldiz_entry *entry)
 {
 	if (result != KUPALDIZ_DONE)
-		widen(seat, entry);
+		kupaldiz_table_widen(seat, entry);
 	return result;
 }
 
 /* ---- Locks and counts. ---- */
 
-static inline void take(const struct registry *registry)
+static inline void take(const struct kupaldiz_table_registry *registry)
 {
 	registry->interlock.take(registry->interlock.of);
 }
 
-static inline void give(const struct registry *registry)
+static inline void give(const struct kupaldiz_table_registry *registry)
 {
 	registry->interlock.give(registry->interlock.of);
 }

@@ -4,18 +4,14 @@
 enum kupaldiz_result kupaldiz_table_look_up(const struct kupaldiz_table_thread *thread,
     const struct kupaldiz_name *name, struct kupaldiz_entry *found)
 {
-	if (thread->at == NULL)
-		return KUPALDIZ_EMPTY_HANDLE;
-	struct seat *seat = seat_of_name(thread->at, name);
+	struct kupaldiz_table_cpu *seat = seat_of_name(thread, name);
 	return widened(seat, kupaldiz_look_up(&seat->cpu, KUPALDIZ_ENTRY, name, found), found);
 }
 
 enum kupaldiz_result kupaldiz_table_get(const struct kupaldiz_table_thread *thread,
     const struct kupaldiz_name *name, struct kupaldiz_passive *reference)
 {
-	if (thread->at == NULL)
-		return KUPALDIZ_EMPTY_HANDLE;
-	struct seat *seat = seat_of_name(thread->at, name);
+	struct kupaldiz_table_cpu *seat = seat_of_name(thread, name);
 	return widened(seat, kupaldiz_get(&seat->cpu, KUPALDIZ_ENTRY, name, reference),
 	    &reference->entry);
 }
@@ -23,11 +19,11 @@ enum kupaldiz_result kupaldiz_table_get(const struct kupaldiz_table_thread *thre
 enum kupaldiz_result kupaldiz_table_release(const struct kupaldiz_table_thread *thread,
     struct kupaldiz_passive *reference)
 {
-	if (thread->at == NULL)
-		return KUPALDIZ_EMPTY_HANDLE;
-	struct seat *seat = seat_of_number(thread->at, reference->entry.number);
-	if (seat == NULL)
-		return KUPALDIZ_NOT_HELD;
+	struct kupaldiz_table_cpu *seat;
+	enum kupaldiz_result result = find_seat(thread, reference->entry.number, KUPALDIZ_NOT_HELD,
+	    &seat);
+	if (result != KUPALDIZ_DONE)
+		return result;
 	narrow(seat, &reference->entry);
 	return kept(seat, kupaldiz_release(&seat->cpu, reference), &reference->entry);
 }
@@ -35,9 +31,7 @@ enum kupaldiz_result kupaldiz_table_release(const struct kupaldiz_table_thread *
 enum kupaldiz_result kupaldiz_table_get_local(const struct kupaldiz_table_thread *thread,
     const struct kupaldiz_name *name, struct kupaldiz_local *local)
 {
-	if (thread->at == NULL)
-		return KUPALDIZ_EMPTY_HANDLE;
-	struct seat *seat = seat_of_name(thread->at, name);
+	struct kupaldiz_table_cpu *seat = seat_of_name(thread, name);
 	return widened(seat, kupaldiz_get_local(&seat->cpu, KUPALDIZ_ENTRY, name, local),
 	    &local->entry);
 }
@@ -51,11 +45,11 @@ enum kupaldiz_result kupaldiz_table_copy_local(struct kupaldiz_local *from,
 enum kupaldiz_result kupaldiz_table_release_local(const struct kupaldiz_table_thread *thread,
     struct kupaldiz_local *local)
 {
-	if (thread->at == NULL)
-		return KUPALDIZ_EMPTY_HANDLE;
-	struct seat *seat = seat_of_number(thread->at, local->entry.number);
-	if (seat == NULL)
-		return KUPALDIZ_NOT_HELD;
+	struct kupaldiz_table_cpu *seat;
+	enum kupaldiz_result result = find_seat(thread, local->entry.number, KUPALDIZ_NOT_HELD,
+	    &seat);
+	if (result != KUPALDIZ_DONE)
+		return result;
 	narrow(seat, &local->entry);
 	return kept(seat, kupaldiz_release_local(&seat->registry->interlock, &seat->cpu, local),
 	    &local->entry);

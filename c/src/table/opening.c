@@ -8,10 +8,10 @@
 /* An entry of a registry is gone. The caller has the registry's lock. */
 static void end_deferred(void *of, const struct kupaldiz_entry *gone)
 {
-	const struct registry *registry = of;
+	const struct kupaldiz_table_registry *registry = of;
 	struct table *table = registry->table;
 	struct kupaldiz_entry entry = *gone;
-	widen(&table->seats[registry - table->registries], &entry);
+	kupaldiz_table_widen(&table->seats[registry - table->registries], &entry);
 	atomic_fetch_sub(&table->deferred, 1);
 	note_gone(table);
 	if (table->freed != NULL)
@@ -42,10 +42,10 @@ static struct member *make_members(uint64_t count)
 }
 
 /* Vacant places for so many memories, each on lines of the cache of its own. */
-static struct place *make_places(uint64_t memories, unsigned place_bits)
+static struct kupaldiz_table_place *make_places(uint64_t memories, unsigned place_bits)
 {
-	const size_t bytes = memories * sizeof(struct place) << place_bits;
-	struct place *made = aligned_alloc(WAYS * sizeof *made, bytes);
+	const size_t bytes = memories * sizeof(struct kupaldiz_table_place) << place_bits;
+	struct kupaldiz_table_place *made = aligned_alloc(WAYS * sizeof *made, bytes);
 	if (made != NULL)
 		memset(made, 0xff, bytes);
 	return made;
@@ -91,9 +91,9 @@ static void set_members(struct table *table)
 	const unsigned place_bits = place_bits_for(table->entries);
 	struct kupaldiz_entry *rows = &table->rows[choice->registries * choice->slots];
 	for (uint64_t i = 0; i < table->threads; i++)
-		table->members[i] = (struct member){.choice = *choice, .table = table,
-		    .seats = &table->seats[i * choice->registries], .row = &rows[i * choice->slots],
-		    .memory = memory_of(table->places, place_bits, i)};
+		table->members[i] = (struct member){.table = table, .row = &rows[i * choice->slots],
+		    .memory = memory_of(choice, place_bits, &table->places[i << place_bits],
+		    &table->seats[i * choice->registries])};
 }
 
 /* Opens a registry, and gives each member its CPU of it. */
@@ -101,7 +101,10 @@ static enum kupaldiz_result open_registry(struct table *table, size_t index)
 {
 	const uint64_t slots = table->choice.slots;
 	const struct kupaldiz_settings settings = KUPALDIZ_SETTINGS(table->threads, slots);
-	struct registry *registry = &table->registries[index];
+	struct kupaldiz_table_registry *registry = &table->registries[index];
+#ifdef KUPALDIZ_CHECK
+	kupaldiz_check_above(index * KUPALDIZ_MOST_CHANGES);
+#endif
 	enum kupaldiz_result result = kupaldiz_open(&settings, &registry->keeper, table->row,
 	    table->threads);
 	if (result != KUPALDIZ_DONE)
@@ -113,7 +116,7 @@ static enum kupaldiz_result open_registry(struct table *table, size_t index)
 	    .entries = &table->rows[index * slots], .room = slots, .freed = end_deferred,
 	    .of = registry};
 	for (uint64_t i = 0; i < table->threads; i++) {
-		table->members[i].seats[index] = (struct seat){.cpu = table->row[i],
+		table->members[i].memory.cpus[index] = (struct kupaldiz_table_cpu){.cpu = table->row[i],
 		    .registry = registry, .number = index * KUPALDIZ_MOST_CHANGES,
 		    .slot = index * slots};
 		table->row[i] = (struct kupaldiz_cpu){0};
@@ -133,7 +136,7 @@ static enum kupaldiz_result open_all(struct table *table)
 		opened += result == KUPALDIZ_DONE;
 	}
 	for (uint64_t i = 0; opened == registries && i < table->threads; i++)
-		table->lent[i] = table->members[i].seats[0].cpu;
+		table->lent[i] = table->members[i].memory.cpus[0].cpu;
 	if (result == KUPALDIZ_DONE)
 		result = kupaldiz_pool_open(&table->pool, table->lent, table->threads);
 	if (result != KUPALDIZ_DONE)

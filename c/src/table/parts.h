@@ -23,7 +23,7 @@ static inline void free_table(struct table *table)
 static inline struct kupaldiz_cpu *row_of_cpus(const struct table *table, size_t index)
 {
 	for (uint64_t i = 0; i < table->threads; i++)
-		table->row[i] = table->members[i].seats[index].cpu;
+		table->row[i] = table->members[i].memory.cpus[index].cpu;
 	return table->row;
 }
 
@@ -31,7 +31,7 @@ static inline struct kupaldiz_cpu *row_of_cpus(const struct table *table, size_t
 static inline void close_registries(struct table *table, size_t count)
 {
 	while (count > 0) {
-		struct registry *registry = &table->registries[--count];
+		struct kupaldiz_table_registry *registry = &table->registries[--count];
 		kupaldiz_close(&registry->keeper, row_of_cpus(table, count), table->threads);
 		pthread_mutex_destroy(&registry->mutex);
 	}

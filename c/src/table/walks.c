@@ -27,19 +27,19 @@ struct walk {
 	bool goes_on;
 };
 
-/* Visits the entries of one registry, each of which a section holds meanwhile. */
+/* Visits the entries of one registry, inside a section, which holds them. */
 static enum kupaldiz_result walk_registry(struct walk *walk, size_t index)
 {
 	const struct member *member = walk->member;
-	struct seat *seat = &member->seats[index];
+	struct kupaldiz_table_cpu *seat = &member->memory.cpus[index];
 	size_t count;
 	enum kupaldiz_result result = kupaldiz_enter(&seat->cpu);
 	if (result != KUPALDIZ_DONE)
 		return result;
-	result = kupaldiz_walk(&seat->cpu, member->row, member->choice.slots, &count);
+	result = kupaldiz_walk(&seat->cpu, member->row, member->table->choice.slots, &count);
 	tell_found();
 	for (size_t i = 0; result == KUPALDIZ_DONE && i < count && walk->goes_on; i++) {
-		widen(seat, &member->row[i]);
+		kupaldiz_table_widen(seat, &member->row[i]);
 		walk->goes_on = walk->visit(walk->of, &member->row[i]);
 	}
 	tell_left();
@@ -60,7 +60,7 @@ enum kupaldiz_result kupaldiz_table_walk(const struct kupaldiz_table_thread *thr
 	if (member->walks)
 		return KUPALDIZ_INSIDE;
 	member->walks = true;
-	for (size_t i = 0; i < member->choice.registries && walk.goes_on &&
+	for (size_t i = 0; i < member->memory.registries && walk.goes_on &&
 	    result == KUPALDIZ_DONE; i++)
 		result = walk_registry(&walk, i);
 	member->walks = false;
@@ -76,8 +76,8 @@ enum kupaldiz_result kupaldiz_table_perform(const struct kupaldiz_table_thread *
 		return KUPALDIZ_EMPTY_HANDLE;
 	if (member->walks)
 		return KUPALDIZ_INSIDE;
-	for (size_t i = 0; i < member->choice.registries && result == KUPALDIZ_DONE; i++)
-		result = kupaldiz_perform_wait(&member->seats[i].registry->interlock,
-		    &member->seats[i].cpu, deadline, waited);
+	for (size_t i = 0; i < member->memory.registries && result == KUPALDIZ_DONE; i++)
+		result = kupaldiz_perform_wait(&member->memory.cpus[i].registry->interlock,
+		    &member->memory.cpus[i].cpu, deadline, waited);
 	return result;
 }

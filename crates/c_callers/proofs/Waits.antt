@@ -124,7 +124,7 @@ turned_call words m k l x y r old new ours on answers =
 
 -- From call to call
 
--- by the answer of a begin outside
+-- by what a begin outside returns
 pub record Began (k l : OnPlainKeeper) (x y : OnPlainCpu) (wait : CWait) : Type 0 where
   pub under : IsUnderWay k.words x y wait
   pub its : wait.begun ≡ x.cpu.view.id + 1

@@ -51,7 +51,7 @@ pub fn opened(alloc: Global) -> Result<Bodies, Refusal>
     bodies_of(Box::into_inner(keeper), cpus)
 }
 
-/// The keeper and its three CPUs, of which the last one comes first.
+/// The keeper and its three CPUs, the last one first.
 fn bodies_of(keeper: KeeperBody, mut cpus: Vec<Box<CpuBody, Global>>) -> Result<Bodies, Refusal>
     requires { boxed cpus.items ≡ opened_down keeper.words 3 3 }
     ensures first { IfOk result (λ it. it.first ≡ opened_cpu it.keeper.words 0) }
@@ -193,7 +193,7 @@ pub fn leave_alone(
     Ok((first, other.1, last))
 }
 
-/// A wait of which another CPU tries a turn: that is refused (`refused`), and nothing changes. The wait goes on where it was. Returns what the
+/// A wait, where another CPU tries a turn: that is refused (`refused`), and nothing changes. The wait goes on where it was. Returns what the
 /// three turns returned.
 /// Conditions: the keeper and both CPUs are of one registry; the CPU is outside. `met` is the law's hypothesis.
 pub fn other_turns(

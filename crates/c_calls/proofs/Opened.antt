@@ -146,7 +146,7 @@ closes_none k k' cs cs' n had number same stay = record { inside = λ _. (number
 pub closes_all : (k k' : Option KeeperHandle) (cs cs' : List (Option OnPlainCpu)) (n : ℕ) → AreOutside cs → n ≡ DONE → keeper_of k' ≡ None → AreEmpty cs' → Closes k k' cs cs' n
 closes_all k k' cs cs' n all number gone empty = record { inside = λ had. absurd (none_inside cs all had); outside = λ _. (number, gone, empty) }
 
--- What an opening answers that has no handles of CPUs, though it should
+-- What an opening returns that has no handles of CPUs, though it should
 
 pub nowhere_full : (k k' : Option OnPlainKeeper) (a : OnPlainKeeper) → k ≡ Some a → k' ≡ k → OpensNowhere k k' FULL_HANDLE
 nowhere_full k k' a is same = record { full = λ _ _. (refl, same); null = λ none. absurd (no_body k a is none) }

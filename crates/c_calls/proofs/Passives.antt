@@ -1,4 +1,4 @@
--- Passive references as C has them: which of them are a CPU's own, and what the answers of the calls beneath are to C.
+-- Passive references as C has them: which of them are a CPU's own, and what C gets of the results of the calls beneath.
 use Rattle.std.proofs.Common.{◌≡◌, ◌≢◌, ℕ, Option, Some, None, Result, Ok, Err, IfOk, IfErr, refl, sym, ap, subst, ◌∙◌, ⊎_elim, arith}
 use Rattle.std.specs.Prelude.{◌<◌, nat_lt}
 use Rattle.std.proofs.lemmas.Bool.{eq-eqb, lt-ltb, ne_eqb}

@@ -1,15 +1,12 @@
 -- What an audit through the handles answers and writes.
-use Rattle.std.specs.Prelude.{◌≡◌, ◌≢◌, ℕ, ◌+◌, ◌<◌, ◌≤◌, pos, All, List, [], length, map, take, drop, get_or, slice_set, Option, Some, None}
-use Rattle.c_calls.specs.Types.{MissingCpu, Settings, Entry, Slot, Vacant, Live, Retired, Change, LogItem}
-use Rattle.registry_values.specs.Common.{Tally, slot_at, number_of_refusal}
-use Rattle.protocol.specs.Common.{IsIn}
-use Rattle.cpu_words.specs.Common.{new_cpu, no_settings}
-use Rattle.passive_list.specs.Common.{OnCpu, OnPlainCpu, OnKeeper, OnPlainKeeper, HasHeardOn, WasShown, HeardAndTold, no_memory}
-use Rattle.name_registry.specs.Common.{HasListened, HaveHeardAndTold, HaveLearned, IsKeeperOf, IsTallied, places_below, tallies_below, tallies_met, tally_met}
+use Rattle.std.specs.Prelude.{◌≡◌, ◌≢◌, ℕ, ◌<◌, ◌≤◌, pos, All, List, [], ◌++◌, length, map, take, drop, replicate, get_or, Option, Some, None}
+use Rattle.c_calls.specs.Types.{MissingCpu, Settings, MOST_CPUS}
+use Rattle.registry_values.specs.Common.{Tally, number_of_refusal}
+use Rattle.cpu_words.specs.Common.{Named, new_cpu, no_settings}
+use Rattle.passive_list.specs.Common.{OnCpu, OnPlainCpu, OnKeeper, OnPlainKeeper, no_memory}
+use Rattle.name_registry.specs.Common.{HasListened, HasToldAll, HaveHeardAndTold, HaveLearned, IsKeeperOf, IsTallied, occupied, tallies_below, tallies_met}
 use Rattle.c_handles.specs.declared.values.plain.TheConstants.{DONE, NO_ROOM, NULL}
 use Rattle.c_handles.specs.declared.values.plain.CBalance.{CBalance}
-use Rattle.atomic_table.specs.Seated.{TableId}
-use mathlib.Core.List.{IsPrefix}
 use Rattle.c_handles.specs.declared.handle.CpuHandle.{CpuHandle}
 use Rattle.c_calls.specs.Opening.{bodies_of, body_at}
 use Rattle.c_handles.specs.values.Places.{DoesBy, put}
@@ -18,6 +15,11 @@ use Rattle.c_handles.specs.values.Places.{DoesBy, put}
 abbrev pub cpu_in : Option OnPlainCpu → OnCpu
 cpu_in None = record { view = new_cpu no_settings 0; depth = 0; made = 0; memory = no_memory 0; known_log = []; log = [] }
 cpu_in (Some b) = b.cpu
+
+-- and its table
+abbrev pub table_in : Option OnPlainCpu → Option Named
+table_in None = None
+table_in (Some b) = Some b.words
 
 abbrev pub cpus_in : List (Option OnPlainCpu) → List OnCpu
 cpus_in cs = map cpu_in cs
@@ -35,33 +37,17 @@ AreAllOf k cs = (a : OnPlainKeeper) (c : ℕ) (b : OnPlainCpu) → k ≡ Some a 
 abbrev pub tally_in : ℕ → CBalance → Tally
 tally_in cpus b = record { number = b.number; slot = b.slot; held = b.held; locals = take cpus b.locals; total = b.total }
 
+-- what all its places say
+abbrev pub balance_in : CBalance → Tally
+balance_in b = record { number = b.number; slot = b.slot; held = b.held; locals = b.locals; total = b.total }
+
+-- the tally, with zeros past the last CPU
+abbrev pub filled_up : Tally → Tally
+filled_up y = record y { locals = y.locals ++ drop (length y.locals) (replicate MOST_CPUS (pos 0)) }
+
 -- past the last CPU it has zeros
 abbrev pub IsCut : ℕ → CBalance → Type 0
 IsCut cpus b = (c : ℕ) → cpus ≤ c → get_or b.locals c (pos 0) ≡ pos 0
-
--- how many of the first slots have an entry
-abbrev pub occupied : OnKeeper → ℕ → ℕ
-occupied k slots = length (places_below k slots)
-
--- whether the slot has an entry
-abbrev pub entries_in : Slot → ℕ
-entries_in Vacant = 0
-entries_in (Live e) = 1
-entries_in (Retired e) = 1
-
--- One slot's part of it: the next balance is written where the slot has an entry.
-pub record WritesNext (z : Settings) (k : OnKeeper) (cs : List (Option OnPlainCpu)) (t at : ℕ) (old : List CBalance) (at' : ℕ) (new : List CBalance) : Type 0 where
-  pub none : slot_at k.slots t ≡ Vacant → (at' ≡ at) × (new ≡ old)
-  pub some : (e : Entry) → IsIn e (slot_at k.slots t)
-      → (at' ≡ at + 1) × (b : CBalance) × (new ≡ slice_set old at b) × (tally_in z.cpus b ≡ tally_met k (cpus_in cs) e.number t) × IsCut z.cpus b
-
--- the balances of the entries in the first t slots are written, and the rest of the list is as before
-pub record AreTold (z : Settings) (k : OnKeeper) (cs : List (Option OnPlainCpu)) (t at : ℕ) (first list : List CBalance) : Type 0 where
-  pub place : at ≡ occupied k t
-  pub met : map (tally_in z.cpus) (take at list) ≡ tallies_met k (cpus_in cs) t
-  pub cut : All (IsCut z.cpus) (take at list)
-  pub rest : drop at list ≡ drop at first
-  pub size : length list ≡ length first
 
 -- the audit of the keeper and all CPUs, as `IsAuditOf` has it of a list of balances
 pub record IsAuditTold (z : Settings) (k : OnKeeper) (xs : List OnCpu) (list : List CBalance) : Type 0 where
@@ -83,18 +69,6 @@ pub record Audits (z : Settings) (k : OnKeeper) (cs : List (Option OnPlainCpu)) 
 
 -- What the CPUs and the keeper hear as all come to know the same of the keeper's log
 
--- the CPU behind the handle heard a note and told on what it knew then
-pub record PassesOn (b : OnPlainCpu) (after : Option OnPlainCpu) (h : List Change) (known_log : List LogItem) (z : TableId) (told : List LogItem) : Type 0 where
-  pub body : OnPlainCpu
-  pub is : after ≡ Some body
-  pub words : body.words ≡ b.words
-  pub heard : HasHeardOn h b.cpu body.cpu
-  pub knows : IsPrefix known_log body.cpu.known_log
-  pub shown : WasShown h b.cpu body.cpu
-  pub table : z ≡ b.words.table
-  pub note : told ≡ body.cpu.known_log
-  pub log : HeardAndTold b.cpu body.cpu
-
 -- behind each handle stands what stood there, but that it may have heard
 pub record HaveHeard (cs cs' : List (Option OnPlainCpu)) : Type 0 where
   pub size : length cs' ≡ length cs
@@ -108,6 +82,7 @@ pub record AuditsBodies (a b : OnPlainKeeper) (cs cs' : List (Option OnPlainCpu)
   pub keeper : HasListened a.keeper b.keeper
   pub cpus : HaveHeard cs cs'
   pub notes : n ≡ DONE → HaveHeardAndTold (cpus_in cs) (cpus_in cs')
+  pub told : n ≡ DONE → HasToldAll a.keeper (cpus_in cs') b.keeper
   pub unchanged : n ≢ DONE → (b ≡ a) × (cs' ≡ cs)
   pub answer : Audits a.words.settings a.keeper cs n old new count count'
 

@@ -88,7 +88,7 @@ pub record Exits (a b : OnPlainCpu) (n : ℕ) : Type 0 where
 
 -- What lookups return, leave and write.
 
--- The result of a call that looks an entry up, of which `Does` tells: its number is returned, and the entry that it found is written.
+-- The result of a call that looks an entry up, as `Does` tells of it: its number is returned, and the entry that it found is written.
 pub record TellsEntry (Does : OnCpu → OnCpu → Result Entry Refusal → Type 0) (a b : OnPlainCpu) (n : ℕ) (old new : Option CEntry) : Type 0 where
   pub r : Result Entry Refusal
   pub number : n ≡ number_of r

@@ -26,7 +26,7 @@ some_collected k t (suc c) = some_collected k t c || (mark_at k.view.marks t c).
 abbrev pub are_collected_for : OnKeeper → ℕ → ℕ → ℕ → Bool
 are_collected_for k t n cpus = is_retired_as n (slot_at k.slots t) && some_collected k t cpus
 
--- what a place of C's has of the answer of an acquire: nothing of a refusal
+-- what an acquire leaves in a place of C's: nothing if it is refused
 abbrev pub given_of : Result OnLocalBody Refusal → Option OnLocal
 given_of (Ok v) = Some (record { held = v; copied = false })
 given_of (Err refusal) = None
@@ -109,7 +109,7 @@ pub record ReleasesOn (a : OnPlainCpu) (v : OnLocalBody) (b : OnPlainCpu) (l : O
   pub how : (HasReleased a.cpu v.reference b.cpu × (l ≡ None))
       ⊎ ((w : ReferenceView) × HasComeBack a.cpu v.reference b.cpu w × (l ≡ Some (record { table = v.table; reference = w })))
 
--- The reference was released, or comes back, which shows that the CPU's count was collected. Of a copied one a share may be released, and others have it still.
+-- The reference was released, or comes back, which shows that the CPU's count was collected. If it is a copied one, a share may be released, and others have it still.
 pub record LocalReleases (a : OnPlainCpu) (v : OnLocal) (b : OnPlainCpu) (n : ℕ) (l : Option OnLocal) : Type 0 where
   pub words : b.words ≡ a.words
   pub how : ((n ≡ DONE) × HasReleased a.cpu v.held.reference b.cpu × (l ≡ None))

@@ -105,7 +105,7 @@ abbrev pub keeper_of : Option KeeperHandle → Option OnPlainKeeper
 keeper_of None = None
 keeper_of (Some h) = h.body
 
--- Of the keeper and some CPUs all are closed, or none, if a CPU is inside. Empty handles stay empty.
+-- The keeper and some CPUs are all closed; none of them if a CPU is inside. Empty handles stay empty.
 pub record Closes (k k' : Option KeeperHandle) (cs cs' : List (Option OnPlainCpu)) (n : ℕ) : Type 0 where
   pub inside : IsSomeInside cs → (n ≡ number_of_refusal Inside) × (k' ≡ k) × (cs' ≡ cs)
   pub outside : AreOutside cs → (n ≡ DONE) × (keeper_of k' ≡ None) × AreEmpty cs'

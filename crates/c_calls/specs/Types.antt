@@ -16,8 +16,6 @@ pub use Rattle.registry_values.specs.declared.slot.Slot.{Slot}
 pub use Rattle.registry_values.specs.declared.slot.Slot.TheVariants.{Live, Retired, Vacant}
 pub use Rattle.registry_values.specs.declared.stage.Stage.{Stage}
 pub use Rattle.registry_values.specs.declared.stage.Stage.TheVariants.{Freed, Grace, Local, Passive}
-pub use Rattle.protocol.specs.declared.event.Event.TheVariants.{Tell}
-pub use Rattle.protocol.specs.declared.event.Reply.TheVariants.{Done}
 pub use Rattle.cpu_words.specs.declared.view.CpuView.{CpuView}
 pub use Rattle.cpu_words.specs.declared.view.LogItem.{LogItem}
 pub use Rattle.cpu_words.specs.declared.view.ReferenceView.{ReferenceView}

@@ -19,7 +19,6 @@ use c_handles::values::place::{EntryPlace, SettingsPlace};
 use c_handles::values::plain::{
     BAD_NAME, CName, DONE, EMPTY_HANDLE, NULL, answered, entry_out, refused, settings_out,
 };
-use c_handles::{CpuBody, KeeperBody};
 use name_registry::{
     attach_iface_by_name_in, attach_in, detach_in, replace_iface_by_name_in, replace_in, room_in,
 };
@@ -71,34 +70,18 @@ pub fn attach(
     let Some(c) = cpu.body_mut() else {
         return made.answer(EMPTY_HANDLE).with_name(name);
     };
-    let answer = attach_by(k, c, name.name(), value, &mut made);
-    made.answer(answer).with_name(name)
-}
-
-/// The same on the bodies, which are of one registry.
-#[tactic(auto, using(crate::proofs::Asked::asks_bad, crate::proofs::Asked::asks_good))]
-fn attach_by(
-    keeper: &mut KeeperBody,
-    cpu: &mut CpuBody,
-    name: Option<CName>,
-    value: u64,
-    made: &mut EntryPlace,
-) -> u32
-    requires { cpu.old.words ≡ keeper.old.words }
-    ensures place { made.new.at ≡ made.old.at }
-    ensures call { AttachCalls name value keeper.old cpu.old keeper.new cpu.new result made.old.value made.new.value }
-{
-    let key = match asked(DRIVER, name) {
+    let key = match asked(DRIVER, name.name()) {
         Ok(key) => key,
-        Err(number) => return number,
+        Err(number) => return made.answer(number).with_name(name),
     };
     let rec = Record {
         kind: key.kind,
         name: key.name,
         value,
     };
-    let answer = attach_in(&keeper.words, &mut keeper.keeper, &mut cpu.cpu, rec);
-    tell_entry(answer, made)
+    let answer = attach_in(&k.words, &mut k.keeper, &mut c.cpu, rec);
+    let number = tell_entry(answer, &mut made);
+    made.answer(number).with_name(name)
 }
 
 /// `kupaldiz_attach_iface` of the header.
@@ -127,37 +110,13 @@ pub fn attach_iface(
             .with_name(name)
             .with_driver(driver);
     };
-    let answer = attach_iface_by(k, c, driver.name(), name.name(), value, &mut made);
-    made.answer(answer).with_name(name).with_driver(driver)
-}
-
-/// The same on the bodies, which are of one registry.
-#[tactic(auto, using(crate::proofs::Both::asks_both_bad, crate::proofs::Both::asks_both_good))]
-fn attach_iface_by(
-    keeper: &mut KeeperBody,
-    cpu: &mut CpuBody,
-    driver: Option<CName>,
-    name: Option<CName>,
-    value: u64,
-    made: &mut EntryPlace,
-) -> u32
-    requires { cpu.old.words ≡ keeper.old.words }
-    ensures place { made.new.at ≡ made.old.at }
-    ensures call { AttachIfaceCalls driver name value keeper.old cpu.old keeper.new cpu.new result made.old.value made.new.value }
-{
-    let (driver, name) = match asked_both(driver, name) {
+    let (d, n) = match asked_both(driver.name(), name.name()) {
         Ok(names) => names,
-        Err(number) => return number,
+        Err(number) => return made.answer(number).with_name(name).with_driver(driver),
     };
-    let answer = attach_iface_by_name_in(
-        &keeper.words,
-        &mut keeper.keeper,
-        &mut cpu.cpu,
-        &driver,
-        &name,
-        value,
-    );
-    tell_entry(answer, made)
+    let answer = attach_iface_by_name_in(&k.words, &mut k.keeper, &mut c.cpu, &d, &n, value);
+    let number = tell_entry(answer, &mut made);
+    made.answer(number).with_name(name).with_driver(driver)
 }
 
 /// `kupaldiz_replace` of the header.
@@ -180,36 +139,13 @@ pub fn replace(
     let Some(c) = cpu.body_mut() else {
         return made.answer(EMPTY_HANDLE).with_name(name).with_gone(gone);
     };
-    let answer = replace_by(k, c, name.name(), value, &mut gone, &mut made);
-    made.answer(answer).with_name(name).with_gone(gone)
-}
-
-/// The same on the bodies, which are of one registry.
-#[tactic(auto, using(crate::proofs::Asked::asks_bad, crate::proofs::Asked::asks_good))]
-fn replace_by(
-    keeper: &mut KeeperBody,
-    cpu: &mut CpuBody,
-    name: Option<CName>,
-    value: u64,
-    gone: &mut EntryPlace,
-    made: &mut EntryPlace,
-) -> u32
-    requires { cpu.old.words ≡ keeper.old.words }
-    ensures places { (gone.new.at ≡ gone.old.at) × (made.new.at ≡ made.old.at) }
-    ensures call { ReplaceCalls name value keeper.old cpu.old keeper.new cpu.new result gone.old.value gone.new.value made.old.value made.new.value }
-{
-    let key = match asked(DRIVER, beside(gone, name)) {
+    let key = match asked(DRIVER, beside(&mut gone, name.name())) {
         Ok(key) => key,
-        Err(number) => return number,
+        Err(number) => return made.answer(number).with_name(name).with_gone(gone),
     };
-    let answer = replace_in(
-        &keeper.words,
-        &mut keeper.keeper,
-        &mut cpu.cpu,
-        &key.name,
-        value,
-    );
-    tell_both(answer, gone, made)
+    let answer = replace_in(&k.words, &mut k.keeper, &mut c.cpu, &key.name, value);
+    let number = tell_both(answer, &mut gone, &mut made);
+    made.answer(number).with_name(name).with_gone(gone)
 }
 
 /// `kupaldiz_replace_iface` of the header.
@@ -236,40 +172,17 @@ pub fn replace_iface(
         let answer = made.answer(EMPTY_HANDLE).with_name(name);
         return answer.with_gone(gone).with_driver(driver);
     };
-    let names = (driver.name(), name.name());
-    let number = replace_iface_by(k, c, names.0, names.1, value, &mut gone, &mut made);
+    let (d, n) = match asked_both(beside(&mut gone, driver.name()), name.name()) {
+        Ok(names) => names,
+        Err(number) => {
+            let answer = made.answer(number).with_name(name);
+            return answer.with_gone(gone).with_driver(driver);
+        }
+    };
+    let answer = replace_iface_by_name_in(&k.words, &mut k.keeper, &mut c.cpu, &d, &n, value);
+    let number = tell_both(answer, &mut gone, &mut made);
     let answer = made.answer(number).with_name(name);
     answer.with_gone(gone).with_driver(driver)
-}
-
-/// The same on the bodies, which are of one registry.
-#[tactic(auto, using(crate::proofs::Both::asks_both_bad, crate::proofs::Both::asks_both_good))]
-fn replace_iface_by(
-    keeper: &mut KeeperBody,
-    cpu: &mut CpuBody,
-    driver: Option<CName>,
-    name: Option<CName>,
-    value: u64,
-    gone: &mut EntryPlace,
-    made: &mut EntryPlace,
-) -> u32
-    requires { cpu.old.words ≡ keeper.old.words }
-    ensures places { (gone.new.at ≡ gone.old.at) × (made.new.at ≡ made.old.at) }
-    ensures call { ReplaceIfaceCalls driver name value keeper.old cpu.old keeper.new cpu.new result gone.old.value gone.new.value made.old.value made.new.value }
-{
-    let (driver, name) = match asked_both(beside(gone, driver), name) {
-        Ok(names) => names,
-        Err(number) => return number,
-    };
-    let answer = replace_iface_by_name_in(
-        &keeper.words,
-        &mut keeper.keeper,
-        &mut cpu.cpu,
-        &driver,
-        &name,
-        value,
-    );
-    tell_both(answer, gone, made)
 }
 
 /// `kupaldiz_detach` of the header.
@@ -291,35 +204,13 @@ pub fn detach(
     let Some(c) = cpu.body_mut() else {
         return gone.answer(EMPTY_HANDLE).with_name(name);
     };
-    let answer = detach_by(k, c, kind, name.name(), &mut gone);
-    gone.answer(answer).with_name(name)
-}
-
-/// The same on the bodies, which are of one registry.
-#[tactic(auto, using(crate::proofs::Asked::asks_bad, crate::proofs::Asked::asks_good))]
-fn detach_by(
-    keeper: &mut KeeperBody,
-    cpu: &mut CpuBody,
-    kind: u32,
-    name: Option<CName>,
-    gone: &mut EntryPlace,
-) -> u32
-    requires { cpu.old.words ≡ keeper.old.words }
-    ensures place { gone.new.at ≡ gone.old.at }
-    ensures call { DetachCalls kind name keeper.old cpu.old keeper.new cpu.new result gone.old.value gone.new.value }
-{
-    let key = match asked(kind, beside(gone, name)) {
+    let key = match asked(kind, beside(&mut gone, name.name())) {
         Ok(key) => key,
-        Err(number) => return number,
+        Err(number) => return gone.answer(number).with_name(name),
     };
-    let answer = detach_in(
-        &keeper.words,
-        &mut keeper.keeper,
-        &mut cpu.cpu,
-        key.kind,
-        &key.name,
-    );
-    tell_entry(answer, gone)
+    let answer = detach_in(&k.words, &mut k.keeper, &mut c.cpu, key.kind, &key.name);
+    let number = tell_entry(answer, &mut gone);
+    gone.answer(number).with_name(name)
 }
 
 /// What is given beside a place that the call needs: nothing, if that is null.

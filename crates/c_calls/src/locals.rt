@@ -6,10 +6,9 @@ ghost use Rattle.passive_list.specs.Common.{HasGivenUp};
 ghost use Rattle.c_handles.specs.Bodies.{IsReferenceOf, OnLocal, OnLocalBody};
 ghost use Rattle.c_handles.specs.Heap.{IsLong};
 ghost use Rattle.c_handles.specs.declared.values.plain.TheConstants.{DONE};
-ghost use Rattle.c_handles.specs.values.Texts.{entry_out};
 ghost use Rattle.c_handles.specs.OnHandle.{held_by};
 ghost use Rattle.c_calls.specs.Calls.{AreOfOne, IsOfCpu, IsOfKeeper, Through};
-ghost use Rattle.c_calls.specs.LocalCalls.{are_collected_for, AcquiresLocal, AcquiresLocalFor, AcquiresLocalInside, AreOfOneRow, GetsLocalFor, GetsLocalNamed, IsUncollected, LocalCopies, LocalForgets, LocalGivesUp, LocalReleases, ReleasesLocked, ReleasesOn, ReleasesUnder, ThroughAll, ThroughLocal, cpu_in};
+ghost use Rattle.c_calls.specs.LocalCalls.{are_collected_for, AcquiresLocal, AcquiresLocalInside, AreOfOneRow, GetsLocalFor, GetsLocalNamed, IsUncollected, LocalCopies, LocalForgets, LocalGivesUp, LocalReleases, ReleasesLocked, ReleasesOn, ReleasesUnder, ThroughAll, ThroughLocal, cpu_in};
 
 use crate::arguments::asked;
 use crate::lookups::seen_out;
@@ -22,18 +21,17 @@ use c_handles::taken::LocalTaken;
 use c_handles::values::answer::{GivenEntryAnswer, GivenNameAnswer};
 use c_handles::values::given::{GivenEntry, GivenName};
 use c_handles::values::plain::{
-    CEntry, CName, COLLECTED, DONE, EMPTY_HANDLE, FULL_HANDLE, NOT_COLLECTED, NULL, OUTSIDE,
-    kind_given, refused,
+    CEntry, COLLECTED, DONE, EMPTY_HANDLE, FULL_HANDLE, NOT_COLLECTED, NULL, OUTSIDE, kind_given,
+    refused,
 };
 use c_handles::{CpuBody, KeeperBody, LocalBody};
 use cpu_words::Words;
-use cpu_words::steps::load_local;
 use local_count::{
     PlainRef, acquire_entry_local, acquire_last_local, release_under, try_release_on,
 };
 use name_registry::get_local_or;
 use passive_list::Keeper;
-use registry_values::{Key, MOST_SLOTS, Refusal, is_retired_as, kind_word};
+use registry_values::{Key, MOST_SLOTS, Refusal, is_retired_as};
 use std::alloc::Global;
 use std_alloc::room::Vacant;
 
@@ -52,28 +50,15 @@ pub fn get_local(
     let Some(body) = cpu.body_mut() else {
         return name.answer(EMPTY_HANDLE);
     };
-    let answer = get_named(alloc, body, kind, name.name(), local);
-    name.answer(answer)
-}
-
-/// Acquires a reference to the entry with that kind and name, if a name was given.
-#[tactic(auto, using(crate::proofs::Asked::asks_bad, crate::proofs::Asked::asks_good))]
-fn get_named(
-    alloc: Global,
-    cpu: &mut CpuBody,
-    kind: u32,
-    name: Option<CName>,
-    local: &mut LocalHandle,
-) -> u32
-    ensures { GetsLocalNamed kind name cpu.old cpu.new result (held_by local.old) (held_by local.new) }
-{
     if !local.is_empty() {
-        return FULL_HANDLE;
+        return name.answer(FULL_HANDLE);
     }
-    match asked(kind, name) {
-        Ok(key) => get_asked(alloc, cpu, key, local),
-        Err(number) => number,
-    }
+    let key = match asked(kind, name.name()) {
+        Ok(key) => key,
+        Err(number) => return name.answer(number),
+    };
+    let number = get_asked(alloc, body, key, local);
+    name.answer(number)
 }
 
 /// Acquires a reference to the entry with that key. A block that isn't needed then is kept. Condition: the handle is empty.
@@ -87,7 +72,7 @@ fn get_asked(alloc: Global, cpu: &mut CpuBody, key: Key, local: &mut LocalHandle
     let mut why = Refusal::NotFound;
     match get_local_or(&cpu.words, &mut cpu.cpu, key, &mut why) {
         Some((seen, reference)) => {
-            local.give(LocalBody::of(reference, seen_out(key, seen), 0), room);
+            local.give(seen_out(key, seen), LocalBody::of(reference, 0), room);
             DONE
         }
         None => {
@@ -120,7 +105,6 @@ pub fn acquire_local(
 /// The fast path of an acquire: of the last found entry, in the block that the CPU keeps, if nothing speaks against it. `false` says nothing, and
 /// nothing has changed.
 #[inline(always)]
-#[tactic(auto, using(crate::proofs::Asked::asks_good))]
 fn acquire_fast(cpu: &mut CpuBody, given: Option<CEntry>, local: &mut LocalHandle) -> bool
     ensures done { IsTrue result → AcquiresLocal given cpu.old cpu.new DONE (held_by local.old) (held_by local.new) }
     ensures none { result ≡ false → (cpu.new ≡ cpu.old) × (held_by local.new ≡ held_by local.old) }
@@ -131,25 +115,13 @@ fn acquire_fast(cpu: &mut CpuBody, given: Option<CEntry>, local: &mut LocalHandl
     if !local.is_empty() {
         return false;
     }
-    match asked(kind_given(&entry), Some(entry.name)) {
-        Ok(key) => acquire_last_asked(cpu, key, entry.number, local),
-        Err(_) => false,
-    }
-}
-
-/// The same of an entry with that key. Condition: the handle is empty.
-#[inline(always)]
-fn acquire_last_asked(cpu: &mut CpuBody, key: Key, number: u64, local: &mut LocalHandle) -> bool
-    requires empty { held_by local.old ≡ None }
-    ensures done { IsTrue result → AcquiresLocalFor number key cpu.old cpu.new DONE (held_by local.old) (held_by local.new) }
-    ensures none { result ≡ false → (cpu.new ≡ cpu.old) × (held_by local.new ≡ held_by local.old) }
-{
-    // The contract alone speaks of the key.
-    let _key = key;
+    let Ok(_key) = asked(kind_given(&entry), Some(entry.name)) else {
+        return false;
+    };
     let Some(room) = cpu.take_kept() else {
         return false;
     };
-    match acquire_last_local(&cpu.words, &mut cpu.cpu, number) {
+    match acquire_last_local(&cpu.words, &mut cpu.cpu, entry.number) {
         Some(reference) => {
             give_acquired(&cpu.words, reference, room, local);
             true
@@ -176,7 +148,7 @@ fn acquire_rest(
     entry.answer(answer)
 }
 
-/// Acquires a reference to the entry that was given, if one was.
+/// Acquires a reference to the entry that was given, if one was, in a section. A block that isn't needed then is kept.
 #[tactic(auto, using(crate::proofs::Asked::asks_bad, crate::proofs::Asked::asks_good))]
 fn acquire_given(
     alloc: Global,
@@ -192,33 +164,20 @@ fn acquire_given(
     let Some(entry) = given else {
         return NULL;
     };
-    match asked(kind_given(&entry), Some(entry.name)) {
-        Ok(key) => acquire_asked(alloc, cpu, key, entry.number, local),
-        Err(number) => number,
-    }
-}
-
-/// Acquires a reference to an entry with that key, in a section. A block that isn't needed then is kept. Condition: the handle is empty.
-fn acquire_asked(
-    alloc: Global,
-    cpu: &mut CpuBody,
-    key: Key,
-    number: u64,
-    local: &mut LocalHandle,
-) -> u32
-    requires empty { held_by local.old ≡ None }
-    ensures { AcquiresLocalFor number key cpu.old cpu.new result (held_by local.old) (held_by local.new) }
-{
+    let key = match asked(kind_given(&entry), Some(entry.name)) {
+        Ok(key) => key,
+        Err(number) => return number,
+    };
     if !cpu.cpu.inside() {
         return OUTSIDE;
     }
     let Ok(room) = cpu.take_room(alloc) else {
         return refused(Refusal::NoMemory);
     };
-    acquire_inside(cpu, key, number, room, local)
+    acquire_inside(cpu, key, entry.number, room, local)
 }
 
-/// The same in that block. Conditions: inside; the handle is empty.
+/// Acquires a reference to an entry with that key, in that block. Conditions: inside; the handle is empty.
 fn acquire_inside(
     cpu: &mut CpuBody,
     key: Key,
@@ -246,7 +205,7 @@ fn acquire_inside(
 #[inline(always)]
 fn give_acquired(
     words: &Words,
-    mut reference: PlainRef,
+    reference: PlainRef,
     room: Vacant<LocalBody, Global>,
     local: &mut LocalHandle,
 )
@@ -255,27 +214,9 @@ fn give_acquired(
     requires empty { held_by local.old ≡ None }
     ensures { (v : OnLocalBody) × (v.table ≡ reference.table) × (v.reference ≡ reference.reference) × (held_by local.new ≡ Some (record { held = v; copied = false })) }
 {
-    let entry = read_entry(words, &mut reference);
-    local.give(LocalBody::of(reference, entry, 0), room);
-}
-
-/// The entry that a reference is to, as C has it: three loads.
-fn read_entry(words: &Words, reference: &mut PlainRef) -> CEntry
-    requires words { (words.now.table ≡ reference.old.table) × (reference.old.reference.entry.slot < words.now.settings.slots) }
-    ensures same { reference.new ≡ reference.old }
-    ensures entry { result ≡ entry_out reference.old.reference.entry }
-{
-    let slot = reference.slot;
-    let high = load_local(words, &mut reference.seat, slot, 2);
-    let low = load_local(words, &mut reference.seat, slot, 3);
-    let value = load_local(words, &mut reference.seat, slot, 4);
-    CEntry {
-        number: reference.number,
-        slot: u64::from(slot),
-        kind: kind_word(reference.kind),
-        name: CName { high, low },
-        value,
-    }
+    let mut body = LocalBody::of(reference, 0);
+    let entry = body.entry(words);
+    local.give(entry, body, room);
 }
 
 /// `kupaldiz_copy_local` of the header.
@@ -326,8 +267,9 @@ fn release_own(
             cpu.keep_room(room);
             DONE
         }
-        Some(back) => {
-            local.give(back, room);
+        Some(mut back) => {
+            let entry = back.entry(&cpu.words);
+            local.give(entry, back, room);
             COLLECTED
         }
     }
@@ -350,8 +292,8 @@ fn release_rest(alloc: Global, cpu: &mut CpuHandle, local: &mut LocalHandle) -> 
     }
 }
 
-/// Releases the reference on this CPU. It comes back where the keeper had collected the CPU's count; its entry is read again then, so that a
-/// release that is done carries no entry past its step.
+/// Releases the reference on this CPU. It comes back where the keeper had collected the CPU's
+/// count.
 /// Condition: both are of one registry.
 fn release_local(cpu: &mut CpuBody, local: LocalBody) -> Option<LocalBody>
     requires { IsReferenceOf cpu.old.words local }
@@ -360,10 +302,7 @@ fn release_local(cpu: &mut CpuBody, local: LocalBody) -> Option<LocalBody>
     let reference = local.into_reference();
     match try_release_on(&cpu.words, &mut cpu.cpu, reference) {
         Ok(()) => None,
-        Err(mut reference) => {
-            let entry = read_entry(&cpu.words, &mut reference);
-            Some(LocalBody::of(reference, entry, 1))
-        }
+        Err(reference) => Some(LocalBody::of(reference, 1)),
     }
 }
 

@@ -6,7 +6,7 @@ ghost use Rattle.std.specs.Prelude.{◌≡◌, ◌≢◌, None, Option};
 ghost use Rattle.protocol.specs.Common.{entry_with};
 ghost use Rattle.cpu_words.specs.Common.{key_with};
 ghost use Rattle.passive_list.specs.Common.{HasRecalledByMemory, OnPlainCpu, entry_seen};
-ghost use Rattle.name_registry.specs.LookingUp.{HasMissed, found_or, looked_up};
+ghost use Rattle.name_registry.specs.LookingUp.{HasEnteredInVain, HasMissed, found_or, looked_up};
 ghost use Rattle.c_handles.specs.values.Texts.{entry_out, number_of};
 ghost use Rattle.c_calls.specs.Calls.{Asks, EntersAndFindsFor, FindsFor, FindsInsideFor, LooksUpFor, Puts, Through};
 
@@ -17,9 +17,12 @@ use c_handles::heap::CHandle;
 use c_handles::values::answer::{EntryAnswer, NamedAnswer};
 use c_handles::values::given::GivenName;
 use c_handles::values::place::EntryPlace;
-use c_handles::values::plain::{CEntry, CName, DONE, EMPTY_HANDLE, OUTSIDE, name_out, refused};
-use name_registry::{enter_find_in, find_fast, find_slow, look_up_fast, look_up_slow};
-use passive_list::Seen;
+use c_handles::values::plain::{CEntry, DONE, EMPTY_HANDLE, OUTSIDE, name_out, refused};
+use name_registry::{
+    enter_find_fast, enter_find_nested, enter_find_slow, find_fast, find_slow, look_up_anew,
+    look_up_fast, look_up_nested,
+};
+use passive_list::{Seen, may_begin_on};
 use registry_values::{Key, Kind, Name, Refusal, kind_word};
 
 /// `kupaldiz_look_up` of the header.
@@ -27,7 +30,7 @@ pub fn look_up(
     cpu: &mut CpuHandle,
     kind: u32,
     mut name: GivenName,
-    found: EntryPlace,
+    mut found: EntryPlace,
 ) -> NamedAnswer
     ensures places { (result.name ≡ name) × (result.place.at ≡ found.at) }
     ensures call { Through cpu.old.body cpu.new.body result.number (result.place.value ≡ found.value)
@@ -37,34 +40,15 @@ pub fn look_up(
     let Some(body) = cpu.body_mut() else {
         return found.answer(EMPTY_HANDLE).with_name(name);
     };
-    look_up_by(body, kind, name.name(), found).with_name(name)
-}
-
-/// The same on the CPU's body.
-#[inline(always)]
-#[tactic(auto, using(crate::proofs::Asked::asks_bad, crate::proofs::Asked::asks_good))]
-fn look_up_by(cpu: &mut CpuBody, kind: u32, name: Option<CName>, found: EntryPlace) -> EntryAnswer
-    ensures place { result.place.at ≡ found.at }
-    ensures call { Asks kind name result.number ((cpu.new ≡ cpu.old) × (result.place.value ≡ found.value))
-        (λ key. LooksUpFor key cpu.old cpu.new result.number found.value result.place.value) }
-{
-    match asked(kind, name) {
-        Ok(key) => look_up_key(cpu, key, found),
-        Err(number) => found.answer(number),
-    }
-}
-
-/// The same by the key.
-#[inline(always)]
-fn look_up_key(cpu: &mut CpuBody, key: Key, mut found: EntryPlace) -> EntryAnswer
-    ensures place { result.place.at ≡ found.at }
-    ensures call { LooksUpFor key cpu.old cpu.new result.number found.value result.place.value }
-{
-    if let Some(seen) = look_up_fast(&cpu.words, &mut cpu.cpu, key) {
+    let key = match asked(kind, name.name()) {
+        Ok(key) => key,
+        Err(number) => return found.answer(number).with_name(name),
+    };
+    if let Some(seen) = look_up_fast(&body.words, &mut body.cpu, key) {
         let number = put_seen(Some(seen), key, &mut found);
-        return found.answer(number);
+        return found.answer(number).with_name(name);
     }
-    look_up_rest(cpu, key.kind, key.name, found)
+    look_up_rest(body, key.kind, key.name, found).with_name(name)
 }
 
 /// What a lookup does that its fast path didn't answer; `a` is the CPU before that. It stands apart, so that the fast path saves no register for it.
@@ -75,13 +59,23 @@ fn look_up_rest(cpu: &mut CpuBody, kind: Kind, name: Name, mut found: EntryPlace
         → LooksUpFor (key_with kind name) a cpu.new result.number found.value result.place.value }
 {
     let key = Key { kind, name };
-    let looked = look_up_slow(&cpu.words, &mut cpu.cpu, key);
+    if may_begin_on(&cpu.words, &cpu.cpu) {
+        let seen = look_up_anew(&cpu.words, &mut cpu.cpu, key);
+        let number = put_seen(seen, key, &mut found);
+        return found.answer(number);
+    }
+    let looked = look_up_nested(&cpu.words, &mut cpu.cpu, key);
     let number = put_looked(looked, key, &mut found);
     found.answer(number)
 }
 
 /// `kupaldiz_find` of the header.
-pub fn find(cpu: &mut CpuHandle, kind: u32, mut name: GivenName, found: EntryPlace) -> NamedAnswer
+pub fn find(
+    cpu: &mut CpuHandle,
+    kind: u32,
+    mut name: GivenName,
+    mut found: EntryPlace,
+) -> NamedAnswer
     ensures places { (result.name ≡ name) × (result.place.at ≡ found.at) }
     ensures call { Through cpu.old.body cpu.new.body result.number (result.place.value ≡ found.value)
         (λ a b. Asks kind name.name result.number ((b ≡ a) × (result.place.value ≡ found.value))
@@ -90,47 +84,18 @@ pub fn find(cpu: &mut CpuHandle, kind: u32, mut name: GivenName, found: EntryPla
     let Some(body) = cpu.body_mut() else {
         return found.answer(EMPTY_HANDLE).with_name(name);
     };
-    find_by(body, kind, name.name(), found).with_name(name)
-}
-
-/// The same on the CPU's body.
-#[inline(always)]
-#[tactic(auto, using(crate::proofs::Asked::asks_bad, crate::proofs::Asked::asks_good))]
-fn find_by(cpu: &mut CpuBody, kind: u32, name: Option<CName>, found: EntryPlace) -> EntryAnswer
-    ensures place { result.place.at ≡ found.at }
-    ensures call { Asks kind name result.number ((cpu.new ≡ cpu.old) × (result.place.value ≡ found.value))
-        (λ key. FindsFor key cpu.old cpu.new result.number found.value result.place.value) }
-{
-    match asked(kind, name) {
-        Ok(key) => find_key(cpu, key, found),
-        Err(number) => found.answer(number),
+    let key = match asked(kind, name.name()) {
+        Ok(key) => key,
+        Err(number) => return found.answer(number).with_name(name),
+    };
+    if !body.cpu.inside() {
+        return found.answer(OUTSIDE).with_name(name);
     }
-}
-
-/// The same by the key.
-#[inline(always)]
-fn find_key(cpu: &mut CpuBody, key: Key, found: EntryPlace) -> EntryAnswer
-    ensures place { result.place.at ≡ found.at }
-    ensures call { FindsFor key cpu.old cpu.new result.number found.value result.place.value }
-{
-    if !cpu.inside() {
-        return found.answer(OUTSIDE);
-    }
-    find_inside(cpu, key, found)
-}
-
-/// The same inside a section.
-#[inline(always)]
-fn find_inside(cpu: &mut CpuBody, key: Key, mut found: EntryPlace) -> EntryAnswer
-    requires inside { cpu.old.cpu.view.begin ≢ None }
-    ensures place { result.place.at ≡ found.at }
-    ensures call { FindsInsideFor key cpu.old cpu.new result.number found.value result.place.value }
-{
-    if let Some(seen) = find_fast(&cpu.words, &mut cpu.cpu, key) {
+    if let Some(seen) = find_fast(&body.words, &mut body.cpu, key) {
         let number = put_seen(Some(seen), key, &mut found);
-        return found.answer(number);
+        return found.answer(number).with_name(name);
     }
-    find_rest(cpu, key.kind, key.name, found)
+    find_rest(body, key.kind, key.name, found).with_name(name)
 }
 
 /// What a find does that its fast path didn't answer; `a` is the CPU before that. It stands apart, as `look_up_rest`.
@@ -162,26 +127,11 @@ pub fn enter_find(
     let Some(body) = cpu.body_mut() else {
         return found.answer(EMPTY_HANDLE).with_name(name);
     };
-    enter_find_by(body, kind, name.name(), found).with_name(name)
-}
-
-/// The same on the CPU's body.
-#[inline(always)]
-#[tactic(auto, using(crate::proofs::Asked::asks_bad, crate::proofs::Asked::asks_good))]
-fn enter_find_by(
-    cpu: &mut CpuBody,
-    kind: u32,
-    name: Option<CName>,
-    found: EntryPlace,
-) -> EntryAnswer
-    ensures place { result.place.at ≡ found.at }
-    ensures call { Asks kind name result.number ((cpu.new ≡ cpu.old) × (result.place.value ≡ found.value))
-        (λ key. EntersAndFindsFor key cpu.old cpu.new result.number found.value result.place.value) }
-{
-    match asked(kind, name) {
-        Ok(key) => enter_find_key(cpu, key, found),
-        Err(number) => found.answer(number),
-    }
+    let key = match asked(kind, name.name()) {
+        Ok(key) => key,
+        Err(number) => return found.answer(number).with_name(name),
+    };
+    enter_find_key(body, key, found).with_name(name)
 }
 
 /// The same by the key.
@@ -190,7 +140,44 @@ fn enter_find_key(cpu: &mut CpuBody, key: Key, mut found: EntryPlace) -> EntryAn
     ensures place { result.place.at ≡ found.at }
     ensures call { EntersAndFindsFor key cpu.old cpu.new result.number found.value result.place.value }
 {
-    let looked = enter_find_in(&cpu.words, &mut cpu.cpu, key);
+    if !may_begin_on(&cpu.words, &cpu.cpu) {
+        return enter_find_deeper(cpu, key.kind, key.name, found);
+    }
+    if let Some(seen) = enter_find_fast(&cpu.words, &mut cpu.cpu, key) {
+        let number = put_seen(Some(seen), key, &mut found);
+        return found.answer(number);
+    }
+    enter_find_rest(cpu, key.kind, key.name, found)
+}
+
+/// What an enter with a find does that its fast path didn't answer; `a` is the CPU before that. It
+/// stands apart, as `look_up_rest`.
+#[inline(never)]
+fn enter_find_rest(cpu: &mut CpuBody, kind: Kind, name: Name, mut found: EntryPlace) -> EntryAnswer
+    requires inside { cpu.old.cpu.view.begin ≢ None }
+    ensures place { result.place.at ≡ found.at }
+    ensures call { (a : OnPlainCpu) → a.words ≡ cpu.old.words → HasEnteredInVain (key_with kind name) a.cpu cpu.old.cpu
+        → EntersAndFindsFor (key_with kind name) a cpu.new result.number found.value result.place.value }
+{
+    let key = Key { kind, name };
+    let seen = enter_find_slow(&cpu.words, &mut cpu.cpu, key);
+    let number = put_seen(seen, key, &mut found);
+    found.answer(number)
+}
+
+/// An enter with a find of a CPU that may begin no section. It stands apart, too.
+#[inline(never)]
+fn enter_find_deeper(
+    cpu: &mut CpuBody,
+    kind: Kind,
+    name: Name,
+    mut found: EntryPlace,
+) -> EntryAnswer
+    ensures place { result.place.at ≡ found.at }
+    ensures call { EntersAndFindsFor (key_with kind name) cpu.old cpu.new result.number found.value result.place.value }
+{
+    let key = Key { kind, name };
+    let looked = enter_find_nested(&cpu.words, &mut cpu.cpu, key);
     let number = put_looked(looked, key, &mut found);
     found.answer(number)
 }

@@ -11,7 +11,7 @@ ghost use Rattle.passive_list.specs.Common.{OnPlainCpu};
 ghost use Rattle.name_registry.specs.LookingUp.{HasNotGot, got_of};
 ghost use Rattle.c_handles.specs.values.Texts.{entry_again, entry_out, number_of};
 ghost use Rattle.c_calls.specs.Calls.{Through};
-ghost use Rattle.c_calls.specs.References.{Acquires, AcquiresFor, AcquiresInside, GetsFor, GetsInto, Copies, CopiesHeld, HoldsSay, Releases, ReleasesHeld, psref_of};
+ghost use Rattle.c_calls.specs.References.{Acquires, AcquiresInside, GetsFor, GetsInto, Copies, CopiesHeld, HoldsSay, Releases, ReleasesHeld, psref_of};
 
 use crate::arguments::asked;
 use crate::lookups::seen_out;
@@ -22,8 +22,8 @@ use c_handles::values::answer::{FlagAnswer, GivenEntryAnswer, GivenNameAnswer};
 use c_handles::values::given::{GivenEntry, GivenName};
 use c_handles::values::place::FlagPlace;
 use c_handles::values::plain::{
-    CEntry, CName, CPassive, DONE, EMPTY_HANDLE, FULL_HANDLE, NULL, OUTSIDE, entry_again,
-    kind_given, no_passive, passive_again, refused,
+    CEntry, CPassive, DONE, EMPTY_HANDLE, FULL_HANDLE, NULL, OUTSIDE, entry_again, kind_given,
+    no_passive, passive_again, refused,
 };
 use name_registry::{get_fast, get_slow};
 use passive_list::Seen;
@@ -44,34 +44,19 @@ pub fn get(
     let Some(body) = cpu.body_mut() else {
         return name.answer(EMPTY_HANDLE);
     };
-    let answer = get_named(body, kind, name.name(), reference);
-    name.answer(answer)
-}
-
-/// Gets a reference to the entry with this kind and name, if they are given so.
-#[inline(always)]
-#[tactic(auto, using(crate::proofs::Asked::asks_bad, crate::proofs::Asked::asks_good))]
-fn get_named(cpu: &mut CpuBody, kind: u32, name: Option<CName>, reference: &mut CPassive) -> u32
-    ensures { GetsInto kind name cpu.old cpu.new result reference.old reference.new }
-{
     if reference.entry.number != 0 {
-        return FULL_HANDLE;
+        return name.answer(FULL_HANDLE);
     }
-    match asked(kind, name) {
-        Ok(key) => get_asked(cpu, key, reference),
-        Err(number) => number,
+    let key = match asked(kind, name.name()) {
+        Ok(key) => key,
+        Err(number) => return name.answer(number),
+    };
+    if let Some(got) = get_fast(&body.words, &mut body.cpu, key) {
+        let number = put_psref(got, key, reference);
+        return name.answer(number);
     }
-}
-
-/// Gets a reference to the entry with that key.
-#[inline(always)]
-fn get_asked(cpu: &mut CpuBody, key: Key, reference: &mut CPassive) -> u32
-    ensures { GetsFor key cpu.old cpu.new result reference.old reference.new }
-{
-    if let Some(got) = get_fast(&cpu.words, &mut cpu.cpu, key) {
-        return put_psref(got, key, reference);
-    }
-    get_rest(cpu, key.kind, key.name, reference)
+    let number = get_rest(body, key.kind, key.name, reference);
+    name.answer(number)
 }
 
 /// What a get does that its fast path didn't answer; `a` is the CPU before that. It stands apart, so that the fast path saves
@@ -142,7 +127,6 @@ pub fn acquire(
 
 /// The fast path of an acquire: of the last found entry, if nothing speaks against it. `false` says nothing, and nothing has changed.
 #[inline(always)]
-#[tactic(auto, using(crate::proofs::Asked::asks_good))]
 fn acquire_fast(cpu: &mut CpuBody, given: Option<CEntry>, reference: &mut CPassive) -> bool
     ensures done { IsTrue result → Acquires given cpu.old cpu.new DONE reference.old reference.new }
     ensures none { result ≡ false → (cpu.new ≡ cpu.old) × (reference.new ≡ reference.old) }
@@ -153,20 +137,9 @@ fn acquire_fast(cpu: &mut CpuBody, given: Option<CEntry>, reference: &mut CPassi
     if reference.entry.number != 0 {
         return false;
     }
-    match asked(kind_given(&entry), Some(entry.name)) {
-        Ok(key) => acquire_last_asked(cpu, key, entry, reference),
-        Err(_) => false,
-    }
-}
-
-/// The same of an entry with that key.
-#[inline(always)]
-fn acquire_last_asked(cpu: &mut CpuBody, key: Key, entry: CEntry, reference: &mut CPassive) -> bool
-    ensures done { IsTrue result → AcquiresFor entry key cpu.old cpu.new DONE reference.old reference.new }
-    ensures none { result ≡ false → (cpu.new ≡ cpu.old) × (reference.new ≡ reference.old) }
-{
-    // The contract alone speaks of the key.
-    let _key = key;
+    let Ok(_key) = asked(kind_given(&entry), Some(entry.name)) else {
+        return false;
+    };
     let Some(psref) = acquire_last(&cpu.words, &mut cpu.cpu, entry.number) else {
         return false;
     };
@@ -192,7 +165,7 @@ fn acquire_rest(
     entry.answer(answer)
 }
 
-/// Acquires a reference to the entry that was given, if one was.
+/// Acquires a reference to the entry that was given, if one was, in a section.
 #[tactic(auto, using(crate::proofs::Asked::asks_bad, crate::proofs::Asked::asks_good))]
 fn acquire_given(cpu: &mut CpuBody, given: Option<CEntry>, reference: &mut CPassive) -> u32
     ensures { Acquires given cpu.old cpu.new result reference.old reference.new }
@@ -203,23 +176,17 @@ fn acquire_given(cpu: &mut CpuBody, given: Option<CEntry>, reference: &mut CPass
     let Some(entry) = given else {
         return NULL;
     };
-    match asked(kind_given(&entry), Some(entry.name)) {
-        Ok(key) => acquire_asked(cpu, key, entry, reference),
-        Err(number) => number,
-    }
-}
-
-/// Acquires a reference to an entry with that key, in a section.
-fn acquire_asked(cpu: &mut CpuBody, key: Key, entry: CEntry, reference: &mut CPassive) -> u32
-    ensures { AcquiresFor entry key cpu.old cpu.new result reference.old reference.new }
-{
+    let key = match asked(kind_given(&entry), Some(entry.name)) {
+        Ok(key) => key,
+        Err(number) => return number,
+    };
     if !cpu.cpu.inside() {
         return OUTSIDE;
     }
     acquire_inside(cpu, key, entry, reference)
 }
 
-/// The same. Condition: inside.
+/// Acquires a reference to an entry with that key. Condition: inside.
 fn acquire_inside(cpu: &mut CpuBody, key: Key, entry: CEntry, reference: &mut CPassive) -> u32
     requires inside { cpu.old.cpu.view.begin ≢ None }
     ensures { AcquiresInside entry key cpu.old cpu.new result reference.old reference.new }

@@ -14,11 +14,11 @@ use c_handles::handle::CpuHandle;
 use c_handles::heap::CHandle;
 use c_handles::values::answer::WalkAnswer;
 use c_handles::values::place::NumberPlace;
-use c_handles::values::plain::{CEntry, DONE, EMPTY_HANDLE, NO_ROOM, NULL, OUTSIDE, entry_out};
+use c_handles::values::plain::{CEntry, CName, DONE, EMPTY_HANDLE, NO_ROOM, NULL, OUTSIDE};
 use c_handles::values::rows::EntriesPlace;
 use cpu_words::Words;
 use passive_list::{PlainCpu, WritesEntry, walk_on};
-use registry_values::Entry;
+use protocol::RecordWords;
 
 /// `kupaldiz_walk` of the header.
 pub fn walk_entries(
@@ -59,7 +59,7 @@ fn walk(cpu: &mut CpuBody, row: &mut [CEntry], count: &mut NumberPlace) -> u32
     ensures place { count.new.at ≡ count.old.at }
     ensures call { Walks cpu.old cpu.new result row.old row.new count.old.value count.new.value }
 {
-    if !cpu.inside() {
+    if !cpu.cpu.inside() {
         return OUTSIDE;
     }
     walk_inside(&cpu.words, &mut cpu.cpu, row, count)
@@ -92,7 +92,17 @@ impl WritesEntry for ToC {
     ghost written = { entry_out };
 
     #[inline(always)]
-    fn write(place: &mut CEntry, entry: Entry) {
-        *place = entry_out(entry);
+    fn write(place: &mut CEntry, slot: u64, entry: RecordWords) {
+        let name = CName {
+            high: entry.high,
+            low: entry.low,
+        };
+        *place = CEntry {
+            number: entry.number,
+            slot,
+            kind: entry.kind,
+            name,
+            value: entry.value,
+        };
     }
 }

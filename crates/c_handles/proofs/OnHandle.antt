@@ -13,7 +13,7 @@ use Rattle.c_handles.specs.Taken.{IsTaken, IsTakenShare}
 pub of_block : (h i : OnHandle) (v : OnLocalBody) → i ≡ h → i.1.body ≡ Some v → held_by h ≡ Some (record { held = v; copied = false })
 of_block h i v same is = ap held_by (sym same) ∙ ap (λ (b : Option OnLocalBody). local_of b i.2.body) is
 
--- one of which it has a share
+-- one that it has a share of
 pub of_share : (h i : OnHandle) (v : OnLocalBody) → i ≡ h → i.1.body ≡ None → i.2.body ≡ Some (Some v) → held_by h ≡ Some (record { held = v; copied = true })
 of_share h i v same none is = ap held_by (sym same) ∙ λ t. local_of (none t) (is t)
 

@@ -2,6 +2,7 @@
 use Rattle.std.specs.Prelude.{◌≡◌, ◌<◌, ℕ, Bool, true, false, Option, None, Some}
 use Rattle.atomic_table.specs.Seated.{TableId}
 use Rattle.c_handles.specs.Types.{ReferenceView, MOST_SLOTS}
+use Rattle.registry_values.specs.Common.{kind_word}
 use Rattle.cpu_words.specs.Common.{Named}
 use Rattle.c_handles.specs.declared.values.plain.CEntry.{CEntry}
 use Rattle.c_handles.specs.values.Texts.{entry_out, no_entry}
@@ -20,9 +21,12 @@ abbrev pub back_word : Option ℕ → ℕ
 back_word None = 0
 back_word (Some place) = 1
 
--- What is kept beside the seat: the entry, which is the reference's, and whether it came back. Number and slot are an entry's.
-pub record IsOurLocal (v : ReferenceView) (e : CEntry) (b : ℕ) : Type 0 where
-  pub entry : e ≡ entry_out v.entry
+-- What is kept beside the seat: the reference's number, slot and kind, and whether it came back.
+-- Number and slot are an entry's.
+pub record IsOurLocal (v : ReferenceView) (n t k b : ℕ) : Type 0 where
+  pub number : n ≡ v.entry.number
+  pub slot : t ≡ v.entry.slot
+  pub kind : k ≡ kind_word v.entry.rec.kind
   pub back : b ≡ back_word v.collected
   pub begun : 0 < v.entry.number
   pub few : v.entry.slot < MOST_SLOTS

@@ -1,14 +1,12 @@
 //! The body of a CPU's handle.
 
-ghost use Rattle.std.specs.Prelude.{◌≡◌, ◌≢◌, ◌↔◌, ◌++◌, IsTrue, None, is_some};
+ghost use Rattle.std.specs.Prelude.{◌≡◌, is_some};
 ghost use Rattle.cpu_words.specs.Common.{AreWordsOf};
-ghost use mathlib.Core.List.{IsPrefix};
-ghost use Rattle.passive_list.specs.Common.{HasHeardOn, WasShown, has_heard, has_told};
 
 use crate::heap::Spare;
 use crate::local_body::LocalBody;
-use cpu_words::{NoteSeat, Words};
-use passive_list::{PlainCpu, hear_on, tell_on};
+use cpu_words::Words;
+use passive_list::PlainCpu;
 use std::alloc::{AllocError, Global};
 use std::marker::Model;
 use std::sync::Arc;
@@ -70,32 +68,11 @@ impl CpuBody {
         self.spare.keep(room);
     }
 
-    /// Whether the CPU is inside a section.
-    pub fn inside(&self) -> bool
-        ensures { IsTrue result ↔ self.now.cpu.view.begin ≢ None }
-    {
-        self.cpu.inside()
-    }
-
-    /// The same, as an exact answer.
+    /// Whether the CPU is inside a section, as an exact answer.
     #[tactic(auto, using(crate::proofs::Inside::inside_is))]
     pub fn is_inside(&self) -> bool
         ensures { result ≡ is_some self.now.cpu.view.begin }
     {
         self.cpu.inside()
-    }
-
-    /// Hears a note, and tells on what it knows then. Condition: the note is of its table.
-    pub fn pass_on(&mut self, note: NoteSeat) -> NoteSeat
-        requires { note.table ≡ self.old.words.table }
-        ensures words { self.new.words ≡ self.old.words }
-        ensures heard { HasHeardOn note.view self.old.cpu self.new.cpu }
-        ensures knows { IsPrefix note.known_log self.new.cpu.known_log }
-        ensures shown { WasShown note.view self.old.cpu self.new.cpu }
-        ensures log { self.new.cpu.log ≡ self.old.cpu.log ++ has_heard self.old.cpu note.teller ++ has_told self.old.cpu }
-        ensures note { (result.table ≡ self.old.words.table) × (result.known_log ≡ self.new.cpu.known_log) }
-    {
-        hear_on(&self.words, &mut self.cpu, note);
-        tell_on(&self.words, &mut self.cpu)
     }
 }

@@ -4,22 +4,27 @@ ghost use Rattle.std.specs.Prelude.{◌≡◌, ◌<◌, is_some};
 ghost use Rattle.c_handles.specs.Bodies.{back_word};
 ghost use Rattle.c_handles.specs.values.Texts.{entry_out};
 
-use crate::values::plain::CEntry;
-use cpu_words::ReferenceSeat;
+use crate::values::plain::{CEntry, CName};
+use cpu_words::steps::load_local;
+use cpu_words::{ReferenceSeat, Words};
 use local_count::PlainRef;
-use registry_values::{Kind, MOST_SLOTS};
+use registry_values::{Kind, MOST_SLOTS, kind_word};
 use std::marker::Model;
 use std::mem::ManuallyDrop;
 
-/// A local reference, and its entry as C has it. An entry's words stay as they were published, so one read at the acquire serves: the
-/// reference needs no share of the table's words, whose count of owners all CPUs would write. It can't be dropped: it is spent by a release,
-/// or forgotten.
+/// A local reference. C's handle has its entry; here is what a release needs of that. It can't be
+/// dropped: it is spent by a release, or forgotten.
 ///
-/// All of it are words: no byte is padding, which the compiler would carry from copy to copy, and an acquire and a release copy it.
+/// All of it are words: no byte is padding, which the compiler would carry from copy to copy, and
+/// an acquire and a release copy it.
 pub struct LocalBody {
     seat: ReferenceSeat,
-    /// Its entry as it was attached. Its number, slot and kind are the reference's.
-    entry: CEntry,
+    /// Its entry's number, from 1.
+    number: u64,
+    /// Its entry's slot, from 0.
+    slot: u64,
+    /// Its entry's kind, as C has it.
+    kind: u64,
     /// 1 where a release found its CPU's count collected, and else 0.
     back: u64,
 }
@@ -31,23 +36,28 @@ impl Model for LocalBody {
 
     ghost view = { λ b. record { table = b.seat.table; reference = b.seat.view } };
 
-    ghost invariant = { λ b. IsOurLocal b.seat.view b.entry b.back };
+    ghost invariant = { λ b. IsOurLocal b.seat.view b.number b.slot b.kind b.back };
 }
 
 impl LocalBody {
-    /// A reference with its entry, and with 1 where it came back, else 0.
-    pub fn of(reference: PlainRef, entry: CEntry, back: u64) -> LocalBody
-        requires entry { entry ≡ entry_out reference.reference.entry }
+    /// A reference, with 1 where it came back, else 0.
+    pub fn of(reference: PlainRef, back: u64) -> LocalBody
         requires back { back ≡ back_word reference.reference.collected }
         ensures { (result.table ≡ reference.table) × (result.reference ≡ reference.reference) }
     {
         let PlainRef {
             seat,
-            number: _,
-            slot: _,
-            kind: _,
+            number,
+            slot,
+            kind,
         } = reference;
-        LocalBody { seat, entry, back }
+        LocalBody {
+            seat,
+            number,
+            slot: u64::from(slot),
+            kind: kind_word(kind),
+            back,
+        }
     }
 
     /// The reference itself.
@@ -56,34 +66,45 @@ impl LocalBody {
     {
         let LocalBody {
             seat,
-            entry,
+            number,
+            slot,
+            kind,
             back: _,
         } = self;
-        let kind = if entry.kind == 1 {
-            Kind::Iface
-        } else {
-            Kind::Driver
-        };
+        let kind = if kind == 1 { Kind::Iface } else { Kind::Driver };
         PlainRef {
             seat,
-            number: entry.number,
-            slot: entry.slot as u8,
+            number,
+            slot: slot as u8,
             kind,
         }
     }
 
-    /// The entry of the reference, as it was attached.
-    pub fn entry(&self) -> CEntry
-        ensures { result ≡ entry_out self.now.reference.entry }
+    /// The entry of the reference, as it was attached and as C has it: three loads. Condition: the
+    /// words are its table's.
+    pub fn entry(&mut self, words: &Words) -> CEntry
+        requires words { (words.now.table ≡ self.old.table) × (self.old.reference.entry.slot < words.now.settings.slots) }
+        ensures same { self.new ≡ self.old }
+        ensures entry { result ≡ entry_out self.old.reference.entry }
     {
-        self.entry
+        let slot = self.slot as u8;
+        let high = load_local(words, &mut self.seat, slot, 2);
+        let low = load_local(words, &mut self.seat, slot, 3);
+        let value = load_local(words, &mut self.seat, slot, 4);
+        CEntry {
+            number: self.number,
+            slot: self.slot,
+            kind: self.kind,
+            name: CName { high, low },
+            value,
+        }
     }
 
     /// The number of its entry, from 1.
     pub fn number(&self) -> u64
         ensures { result ≡ self.now.reference.entry.number }
     {
-        self.entry.number
+        self.number
     }
 
     /// The slot of its entry, from 0.
@@ -91,7 +112,7 @@ impl LocalBody {
         ensures slot { result ≡ self.now.reference.entry.slot }
         ensures few { result < MOST_SLOTS }
     {
-        self.entry.slot as u8
+        self.slot as u8
     }
 
     /// Whether a release found its CPU's count collected.

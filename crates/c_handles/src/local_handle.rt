@@ -3,6 +3,7 @@
 ghost use Rattle.std.specs.Prelude.{◌≡◌, ◌<◌, ◌⊎◌, IfSome, Some, None, true, false, is_some};
 ghost use Rattle.c_handles.specs.Bodies.{OnLocal, OnLocalBody, as_copied};
 ghost use Rattle.c_handles.specs.OnHandle.{held_by};
+ghost use Rattle.c_handles.specs.values.Texts.{entry_out};
 ghost use Rattle.c_handles.specs.Taken.{CopiesTo, IsTaken, IsTakenOwn, IsTakenShare};
 
 use crate::copy_body::CopyBody;
@@ -75,12 +76,14 @@ impl LocalHandle {
         }
     }
 
-    /// Puts that reference into it, in that block, and its entry beside it. Condition: it is empty.
-    pub fn give(&mut self, body: LocalBody, room: Vacant<LocalBody, Global>)
-        requires { held_by self.old ≡ None }
+    /// Puts that reference into it, in that block, and its entry beside it. Conditions: it is
+    /// empty; the entry is the reference's.
+    pub fn give(&mut self, entry: CEntry, body: LocalBody, room: Vacant<LocalBody, Global>)
+        requires empty { held_by self.old ≡ None }
+        requires entry { entry ≡ entry_out body.reference.entry }
         ensures { held_by self.new ≡ Some (record { held = body; copied = false }) }
     {
-        self.entry = body.entry();
+        self.entry = entry;
         self.block.give(body, room);
     }
 

@@ -4,7 +4,8 @@ use crate::local_body::LocalBody;
 use std::alloc::Global;
 use std_alloc::room::Vacant;
 
-/// Of a handle that had nothing, nothing. Of a copied one a share of the reference, which others have still. Else the reference, and its block.
+/// What is taken out of a handle. From one that had nothing: nothing. From a copied one: a share of the reference, which others
+/// have still. Else the reference, and its block.
 pub enum LocalTaken {
     Nothing,
     Share,

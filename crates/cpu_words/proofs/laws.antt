@@ -1,5 +1,6 @@
 pub mod Balance
 pub mod Called
+pub mod Counting
 pub mod Freed
 pub mod Held
 pub mod Fresh

@@ -12,7 +12,8 @@ pub use Rattle.cpu_words.specs.declared.view.View.{View}
 pub use Rattle.cpu_words.specs.declared.view.View.TheVariants.{Cpu, Keeper, Note, Reference, Spent}
 pub use Rattle.cpu_words.specs.Steps.{HasNone, ListGoesOn, is_border, is_hear, part, CpuMay, JoinsBy, JoinsOn, KeeperMay, KeeperStores, Makes, Moves, OneSeat, ReferenceMay, SeatMakes, SeatMay}
 pub use Rattle.cpu_words.specs.Steps.{SplitsBy, SplitsOn}
-pub use Rattle.cpu_words.specs.Held.{Finds, FreesNoneHeld, HasFoundInside, KeepsHeld, is_exit, passive_after, passive_from}
+pub use Rattle.cpu_words.specs.Held.{CountExactly, Finds, FreesNoLocals, FreesNoneHeld, HasFoundInside, KeepsHeld, acquired_by, acquired_from, acquired_in, found_after, is_exit}
+pub use Rattle.cpu_words.specs.Held.{joined_after, local_references, passive_after, passive_by, passive_from, released_by, released_from, released_in, tried_after}
 pub use Rattle.cpu_words.specs.Headline.{HasOneSeat, IsBalanced, SeatsBalance, count_word, hand_to, held_by_seats, in_hand_to, total_word, DrainedIsFree, FoundIsHeld, HeldHaveSlots, IsInHand}
 pub use Rattle.cpu_words.specs.Headline.{MarkTells, MarksAreHonest, RunningHeadline, RunsAsLogged, RunsLawfully, SeatHolds, SectionMayHold}
 pub use Rattle.cpu_words.specs.Called.{CpuHearsLater, EndsOpenSections, HasLeft, HasLeftSince, HasToldSince, KeeperHearsLater}
@@ -48,7 +49,7 @@ pub use Rattle.cpu_words.specs.Rule.{log_with, number_of_id, number_or_none, ref
 pub use Rattle.cpu_words.specs.Sections.{Descends, FoundHolds, HasFollowed, HasLoadedLink, HasLoadedWord, HasSearched, HasSought, IsAtWord, LinkHolds, MayLoadLink, MayLoadSearched, MaySeek}
 pub use Rattle.cpu_words.specs.Sections.{KeepsPlace, MayStandOn, PassTells, SkipsNone, cpu_after_link, cpu_after_record_word, cpu_after_seek, every_word, key_with, link_answer, loaded_answer, loaded_of}
 pub use Rattle.cpu_words.specs.Sections.{IsValueThere, search_for, search_with_place, sought, tells_compared, HasEntered, HasExited, HasWholePass, IsIdle, MayEnter, MayExit}
-pub use Rattle.cpu_words.specs.Spots.{AreApart, FirstWordsFree, IsSpot, LinesApart, OnePlace, Spot, count_of, head_word, index, live_of, next_of, owner, passive_of, record_of, rows_from, section_of}
+pub use Rattle.cpu_words.specs.Spots.{AreApart, FirstWordsFree, IsRowOf, IsSpot, LinesApart, OnePlace, Spot, count_of, head_word, index, live_of, next_of, owner, passive_of, record_of, rows_from, section_of}
 pub use Rattle.cpu_words.specs.Spots.{stride_of, total_of, word_at, words_of}
 pub use Rattle.cpu_words.specs.Views.{CpuShown, LivesShow, GivesUp, HandFits, IsCollectedFor, KeeperShown, Named, ReferenceShown, SameHand, Seated, Shown, collected_net, collected_one, cpu_of}
 pub use Rattle.cpu_words.specs.Views.{cpu_view, depth_of, first_view, is_to, keeper_of, keeper_view, new_cpu, new_keeper, no_entry, no_settings, note_of, number_at, one_more, reference_of, references_to}

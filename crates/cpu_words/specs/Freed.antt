@@ -15,10 +15,10 @@ use Rattle.cpu_words.specs.declared.view.View.TheVariants.{Keeper, Cpu}
 use Rattle.cpu_words.specs.KeeperLog.{IsFreedFrom, IsAttachedKeeping}
 use Rattle.cpu_words.specs.Logs.{without_logs, LoggedRuled, AreByOwn, events_of}
 use Rattle.cpu_words.specs.Headline.{RunsAsLogged, SeatHolds}
-use Rattle.cpu_words.specs.Held.{FreesNoneHeld}
+use Rattle.cpu_words.specs.Held.{CountExactly, FreesNoLocals, FreesNoneHeld, passive_by}
 use Rattle.cpu_words.specs.declared.view.LogItem.{LogItem}
 use Rattle.cpu_words.specs.Spots.{index, live_of}
-use Rattle.cpu_words.specs.Views.{CpuShown, KeeperShown}
+use Rattle.cpu_words.specs.Views.{CpuShown, KeeperShown, references_to}
 use Rattle.cpu_words.specs.Rule.{Agrees, log_of_events}
 use Rattle.cpu_words.specs.Steps.{part}
 
@@ -154,6 +154,8 @@ pub record IsWholeIn {z : Settings} {k : KeeperView} {log : List LogItem} {last 
   pub shown : CpuShown (after (opening z) run.events) x
   pub known : IsPrefix known_log log
   pub seen : IsPrefix x.pass k.history
+  -- it has just the passive references that its log says
+  pub references : (n : ℕ) → passive_by n did ≡ references_to n x.references
 
 -- one list for the keeper and for each CPU that it took over
 pub record EndsRunForAll (z : Settings) (k : KeeperView) (log : List LogItem) (ends : List EndedSeat) (last : List ℕ) : Type 0 where
@@ -161,6 +163,10 @@ pub record EndsRunForAll (z : Settings) (k : KeeperView) (log : List LogItem) (e
   pub each : (i : ℕ) (x : CpuView) (did known_log : List LogItem) → get_elem? ends i ≡ some (cpu_end x did known_log) → IsWholeIn run x did known_log
   -- no entry was freed while a CPU held it
   pub held : FreesNoneHeld run.seat (after (opening z) run.events).seated run.acts
+  -- nor while there was a local reference to it, by all logs
+  pub locals : FreesNoLocals run.seat (after (opening z) run.events).seated run.acts
+  -- what the logs count is just what there was
+  pub exact : CountExactly z run.events run.seat run.acts
 
 -- so it is of every run that has ended so
 abbrev pub EndedRunsForAll : Type 0

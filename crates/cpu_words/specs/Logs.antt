@@ -272,7 +272,7 @@ with_end l m = record l { ends = end_of m ∷ l.ends }
 abbrev pub ended_seat : Logged → Logged
 ended_seat m = record m { ended = true }
 
--- all that stands beside a CPU's view, which hasn't ended
+-- all that is kept with a CPU's view, which hasn't ended
 abbrev pub logged_cpu : Seated CpuView → Logged
 logged_cpu s = record { view = Cpu s.view; log = s.log; known_log = s.known_log; noted_log = s.noted_log; teller = s.teller; list = s.list; ends = s.ends; ended = false }
 

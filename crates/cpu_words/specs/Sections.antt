@@ -91,7 +91,7 @@ abbrev pub Descends : List Change → Search → ℕ → ℕ → List Change →
 Descends p q s zero r = Unit {0}
 Descends p q s (suc t) r = (e f : Entry) → MayStandOn p q s e → MayStandOn r q t f → rank_at r f.number < rank_at r e.number
 
--- f was live after the first `from` changes, and an entry is live in its place at the end of h: f itself, or one that came to stand there by replacements
+-- f was live after the first `from` changes, and an entry is live in its place at the end of h: f itself, or one that came there by replacements
 pub record KeepsPlace (h : List Change) (from : ℕ) (f : Entry) : Type 0 where
   pub live : IsLiveAt h from f
   pub now : Entry

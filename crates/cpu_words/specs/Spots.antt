@@ -2,6 +2,7 @@
 use Rattle.std.specs.Prelude.{◌≡◌, ℕ, ◌+◌, ◌*◌, ◌<◌, ◌≤◌, ◌⊎◌, slice_index_or, Option, Some, None}
 use Rattle.cpu_words.specs.Types.{Settings}
 use Rattle.protocol.specs.Common.{State, section_at, row_at, passive_at, count_at, total_at, live_at, word}
+use Rattle.cpu_words.specs.declared.layout.Row.{Row}
 use Rattle.cpu_words.specs.declared.layout.TheConstants.{LINE, PASSIVES, APART, HEAD, NEXTS, RECORDS, LIVES, STRIDE, TOTALS}
 
 -- a word of the table: a CPU's section, its passive and count words for each slot, the head, and a slot's link, record words, live word and total
@@ -39,6 +40,11 @@ index z (live_of t) = LIVES + STRIDE * t
 index z (next_of t) = NEXTS + STRIDE * t
 index z (record_of t k) = RECORDS + STRIDE * t + k
 index z (total_of t) = TOTALS + STRIDE * t
+
+-- what is kept of a CPU's row, where there are so many slots
+pub record IsRowOf (slots : ℕ) (r : Row) : Type 0 where
+  pub section : r.section ≡ rows_from slots + r.cpu * stride_of slots
+  pub counts : r.counts ≡ rows_from slots + r.cpu * stride_of slots + PASSIVES + slots
 
 -- the settings have such a word
 abbrev pub IsSpot : Settings → Spot → Type 0

@@ -60,7 +60,9 @@ pub fn running_headline()
 /// - `known`, `seen`: what it knew of the keeper's log begins that log, and its pass the history.
 ///
 /// Where the keeper ended the table (`Words::close_all`), this is so of each CPU that it took over, by one list (`all`). And no entry was
-/// freed while one of these held it by its log: in a section that had found it, or by a passive reference (`held`).
+/// freed while one of these held it by its log: in a section that had found it, or by a passive reference, also of a get (`held`); nor while
+/// there was a local reference to it, by the logs of all CPUs and the keeper's (`locals`). What the logs count as held is just what there was,
+/// at each event (`exact`), and at the end of each CPU (`references`).
 #[tactic(auto, using(crate::proofs::laws::Freed::ended_runs, crate::proofs::laws::Freed::ended_runs_for_all))]
 pub fn ended_run()
     ensures ended { EndedRuns }

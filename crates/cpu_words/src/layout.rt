@@ -14,7 +14,7 @@
 //! ```
 
 ghost use Rattle.std.specs.Prelude.{◌≡◌, ◌<◌, ◌≤◌, ◌+◌, ◌*◌, ◌-◌};
-ghost use Rattle.cpu_words.specs.Spots.{rows_from, stride_of, words_of, section_of, passive_of, count_of, index, LinesApart, OnePlace, FirstWordsFree, AllBelow};
+ghost use Rattle.cpu_words.specs.Spots.{rows_from, stride_of, words_of, section_of, passive_of, count_of, index, IsRowOf, LinesApart, OnePlace, FirstWordsFree, AllBelow};
 
 use crate::law::Words;
 use registry_values::{MOST_SLOTS, Settings};
@@ -67,15 +67,76 @@ pub(crate) fn words_of(settings: Settings) -> usize
     rows_place(settings.slots) + settings.cpus as usize * row_size(settings.slots)
 }
 
+/// Where a CPU's words are, for whoever steps on them again and again: each place is one addition or none.
+#[derive(Clone, Copy, Debug, PartialEq, Eq)]
+pub struct Row {
+    /// The CPU's number, from 0.
+    pub cpu: u8,
+    /// The place of its section word.
+    section: u32,
+    /// The place of its count word for slot 0.
+    counts: u32,
+}
+
+impl Row {
+    /// The row of a CPU, in a table of so many slots.
+    pub fn of(slots: u8, cpu: u8) -> Row
+        ensures row { IsRowOf slots result }
+        ensures cpu { result.cpu ≡ cpu }
+    {
+        let section = rows_place(slots) + cpu as usize * row_size(slots);
+        Row {
+            cpu,
+            section: section as u32,
+            counts: (section + PASSIVES + slots as usize) as u32,
+        }
+    }
+
+    /// The place of the CPU's section word.
+    #[tactic(auto, using(crate::proofs::shown::Placing::below_size))]
+    pub(crate) fn section_place(self, words: &Words) -> usize
+        requires cpu { self.cpu < words.now.settings.cpus }
+        requires row { IsRowOf words.now.settings.slots self }
+        ensures place { result ≡ index words.now.settings (section_of self.cpu) }
+        ensures below { result < words_of words.now.settings }
+    {
+        // The contract alone speaks of the words.
+        let _words = words;
+        self.section as usize
+    }
+
+    /// The place of the CPU's passive word for a slot.
+    pub(crate) fn passive_place(self, words: &Words, slot: u8) -> usize
+        requires word { (self.cpu < words.now.settings.cpus) × (slot < words.now.settings.slots) }
+        requires row { IsRowOf words.now.settings.slots self }
+        ensures place { result ≡ index words.now.settings (passive_of self.cpu slot) }
+        ensures below { result < words_of words.now.settings }
+    {
+        // The contract alone speaks of the words.
+        let _words = words;
+        self.section as usize + PASSIVES + slot as usize
+    }
+
+    /// The place of the CPU's count word for a slot.
+    pub(crate) fn count_place(self, words: &Words, slot: u8) -> usize
+        requires word { (self.cpu < words.now.settings.cpus) × (slot < words.now.settings.slots) }
+        requires row { IsRowOf words.now.settings.slots self }
+        ensures place { result ≡ index words.now.settings (count_of self.cpu slot) }
+        ensures below { result < words_of words.now.settings }
+    {
+        // The contract alone speaks of the words.
+        let _words = words;
+        self.counts as usize + slot as usize
+    }
+}
+
 /// The place of a CPU's section word.
-#[tactic(auto, using(crate::proofs::shown::Placing::below_size))]
 pub(crate) fn section_place(words: &Words, cpu: u8) -> usize
     requires cpu { cpu < words.now.settings.cpus }
     ensures place { result ≡ index words.now.settings (section_of cpu) }
     ensures below { result < words_of words.now.settings }
 {
-    let slots = words.settings().slots;
-    rows_place(slots) + cpu as usize * row_size(slots)
+    Row::of(words.settings().slots, cpu).section_place(words)
 }
 
 /// The place of a CPU's passive word for a slot.
@@ -84,18 +145,16 @@ pub(crate) fn passive_place(words: &Words, cpu: u8, slot: u8) -> usize
     ensures place { result ≡ index words.now.settings (passive_of cpu slot) }
     ensures below { result < words_of words.now.settings }
 {
-    let slots = words.settings().slots;
-    rows_place(slots) + cpu as usize * row_size(slots) + PASSIVES + slot as usize
+    Row::of(words.settings().slots, cpu).passive_place(words, slot)
 }
 
 /// The place of a CPU's count word for a slot.
-#[tactic(auto, using(crate::proofs::shown::Placing::below_size))]
 pub(crate) fn count_place(words: &Words, cpu: u8, slot: u8) -> usize
     requires word { (cpu < words.now.settings.cpus) × (slot < words.now.settings.slots) }
     ensures place { result ≡ index words.now.settings (count_of cpu slot) }
     ensures below { result < words_of words.now.settings }
 {
-    section_place(words, cpu) + PASSIVES + words.settings().slots as usize + slot as usize
+    Row::of(words.settings().slots, cpu).count_place(words, slot)
 }
 
 /// The place of a slot's link.

@@ -20,7 +20,7 @@ mod view;
 pub use closing::LastWords;
 pub use headline::{ended_run, honest_marks, running_headline};
 pub use law::{Domain, RegistryRule, Words};
-pub use layout::layout_law;
+pub use layout::{Row, layout_law};
 pub use seat::{CpuSeat, KeeperSeat, NoteSeat, ReferenceSeat, Seat, SeatView};
 pub use view::{
     CpuView, EndedSeat, InHand, KeeperView, LogItem, Logged, Looked, ReferenceView, Teller, View,

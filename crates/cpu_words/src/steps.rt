@@ -5,6 +5,9 @@
 //!
 //! - two make two events: `seek` begins the search and loads its first link, and `vacate` makes a slot vacant and hears;
 //! - the two that hear say in clauses of their own what the seat has heard then.
+//!
+//! A step on one of a CPU's own words takes the CPU's row in place of its number. Condition: the row is
+//! of a table with as many slots as this one (`row`), as `Row::of` makes it.
 
 pub mod drain;
 pub mod grace;

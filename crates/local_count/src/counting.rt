@@ -61,8 +61,8 @@ pub fn acquire_local_on(words: &Words, cpu: &mut PlainCpu) -> Result<PlainRef, R
         return Err(refusal);
     }
     let found = cpu.found;
-    let word = steps::count_add(words, &mut cpu.seat, cpu.id, found.slot, found.number);
-    let seat = steps::split_ref(words, &mut cpu.seat, cpu.id);
+    let word = steps::count_add(words, &mut cpu.seat, cpu.row, found.slot, found.number);
+    let seat = steps::split_ref(words, &mut cpu.seat, cpu.row.cpu);
     set_net(&mut cpu.net[found.slot as usize], found.number, word + 1);
     Ok(PlainRef {
         seat,
@@ -222,10 +222,10 @@ pub fn try_release_on(
         kind,
     } = reference;
     let count = net_count(cpu.net[slot as usize], number);
-    steps::join_ref(words, &mut cpu.seat, cpu.id, seat);
-    let word = steps::count_down(words, &mut cpu.seat, cpu.id, slot, number, count);
+    steps::join_ref(words, &mut cpu.seat, cpu.row.cpu, seat);
+    let word = steps::count_down(words, &mut cpu.seat, cpu.row, slot, number, count);
     if word != count {
-        let seat = steps::split_back(words, &mut cpu.seat, cpu.id);
+        let seat = steps::split_back(words, &mut cpu.seat, cpu.row.cpu);
         return Err(PlainRef {
             seat,
             number,

@@ -1,9 +1,9 @@
 -- What the code of an audit makes, in any state of the views.
-use Rattle.std.proofs.Common.{◌≡◌, ◌≢◌, inl, inr, ⊎_elim, ℕ, zero, suc, ◌+◌, ◌*◌, ◌<◌, ◌≤◌, Bool, true, ◌&&◌, ℤ, pos, ◌+ℤ◌, List, [], ◌∷◌, ◌++◌, length, get_or, map, take, cond, false, refl, sym, ap, ◌∙◌, subst, arith, add-one}
+use Rattle.std.proofs.Common.{◌≡◌, ◌≢◌, inl, inr, ⊎_elim, ℕ, zero, suc, ◌+◌, ◌*◌, ◌<◌, ◌≤◌, Bool, true, ◌&&◌, ℤ, pos, ◌+ℤ◌, List, [], ◌∷◌, ◌++◌, length, get_or, map, cond, false, refl, sym, ap, ◌∙◌, subst, arith, add-one}
 use Rattle.std.specs.List.{All}
 use Rattle.std.proofs.lemmas.Bool.{eq-eqb, ne_eqb}
 use Rattle.std.proofs.lemmas.Int.{ints}
-use Rattle.std.proofs.lemmas.List.{append-nil, map-append, length-map, map_more}
+use Rattle.std.proofs.lemmas.List.{append-nil, map-append, length-map}
 use Rattle.std.proofs.lemmas.Simd.{map-map}
 use Rattle.std.proofs.lemmas.List.Elements.{All-append, All-cons, All-head, All-nil, All-tail}
 use mathlib.Core.Logic.{dite}
@@ -154,16 +154,15 @@ each_map {X} {Y} v f slots (suc t) =
 
 -- What is shown of the list
 
-all_shown : (P : Tally → Type 0) (list : List Balance) → All P (map tally_shown list) → All (λ (b : Balance). P (tally_shown b)) list
-all_shown P [] all = All-nil (λ (b : Balance). P (tally_shown b))
-all_shown P (b ∷ list) all =
-    All-cons (λ (b : Balance). P (tally_shown b)) b list (All-head P (tally_shown b) (map tally_shown list) all) (all_shown P list (All-tail P (tally_shown b) (map tally_shown list) all))
+pub all_shown : {X Y : Type 0} (f : X → Y) (P : Y → Type 0) (list : List X) → All P (map f list) → All (λ (x : X). P (f x)) list
+all_shown f P [] all = All-nil (λ x. P (f x))
+all_shown f P (x ∷ list) all = All-cons (λ y. P (f y)) x list (All-head P (f x) (map f list) all) (all_shown f P list (All-tail P (f x) (map f list) all))
 
 -- what is so of each entry's tally is so of each balance
-pub all_met : (P : Tally → Type 0) (k : OnKeeper) (xs : List OnCpu) (slots : ℕ) (list : List Balance) → map tally_shown list ≡ tallies_met k xs slots
+pub all_met : {X : Type 0} (shown : X → Tally) (P : Tally → Type 0) (k : OnKeeper) (xs : List OnCpu) (slots : ℕ) (list : List X) → map shown list ≡ tallies_met k xs slots
     → ((t : ℕ) (e : Entry) → IsIn e (slot_at k.slots t) → P (tally_met k xs e.number t))
-    → All (λ (b : Balance). P (tally_shown b)) list
-all_met P k xs slots list is each = all_shown P list (subst (All P) (sym is) (each_all P (tally_met k xs) k.slots slots each))
+    → All (λ (b : X). P (shown b)) list
+all_met shown P k xs slots list is each = all_shown shown P list (subst (All P) (sym is) (each_all P (tally_met k xs) k.slots slots each))
 
 pub places_met : (k : OnKeeper) (xs : List OnCpu) (slots : ℕ) (list : List Balance) → map tally_shown list ≡ tallies_met k xs slots → map place_of list ≡ places_below k slots
 places_met k xs slots list is = sym (map-map listed tally_shown list) ∙ (ap (map listed) is ∙ each_map listed (tally_met k xs) k.slots slots)
@@ -173,35 +172,11 @@ places_met k xs slots list is = sym (map-map listed tally_shown list) ∙ (ap (m
 
 pub sums_met : (k : OnKeeper) (xs : List OnCpu) (slots : ℕ) (list : List Balance) → map tally_shown list ≡ tallies_met k xs slots
     → All (λ (b : Balance). b.held ≡ sum_of b.locals.items +ℤ b.total) list
-sums_met k xs slots list is = all_met (λ (y : Tally). y.held ≡ sum_of y.locals +ℤ y.total) k xs slots list is (λ t e there. refl)
+sums_met k xs slots list is = all_met tally_shown (λ (y : Tally). y.held ≡ sum_of y.locals +ℤ y.total) k xs slots list is (λ t e there. refl)
 
 pub counts_met : (k : OnKeeper) (xs : List OnCpu) (cpus slots : ℕ) (list : List Balance) → AreAllCpus cpus xs → map tally_shown list ≡ tallies_met k xs slots
     → All (λ (b : Balance). length b.locals.items ≡ cpus) list
-counts_met k xs cpus slots list all is = all_met (λ (y : Tally). length y.locals ≡ cpus) k xs slots list is (λ t e there. length-map xs (local_met k t e.number) ∙ all.count)
-
--- How the code goes over CPUs and slots
-
--- a slot without an entry, and one with an entry
-pub tallies_none : (k : OnKeeper) (xs : List OnCpu) (t : ℕ) (x : Slot) (old new : List Balance) → x ≡ slot_at k.slots t → x ≡ Vacant → new ≡ old → map tally_shown old ≡ tallies_met k xs t
-    → map tally_shown new ≡ tallies_met k xs (t + 1)
-tallies_none k xs t x old new at is same so_far = each_none (tally_met k xs) k.slots t x (map tally_shown new) at is (ap (map tally_shown) same ∙ so_far)
-
-pub tallies_more : (k : OnKeeper) (xs : List OnCpu) (t : ℕ) (x : Slot) (e : Entry) (old pushed new : List Balance) (b : Balance) → x ≡ slot_at k.slots t → IsIn e x → new ≡ pushed
-    → pushed ≡ old ++ b ∷ [] → map tally_shown old ≡ tallies_met k xs t → tally_shown b ≡ tally_met k xs e.number t
-    → map tally_shown new ≡ tallies_met k xs (t + 1)
-tallies_more k xs t x e old pushed new b at is same more so_far one =
-    ap (map tally_shown) (same ∙ more) ∙ (map-append tally_shown old (b ∷ []) ∙ each_more (tally_met k xs) k.slots t x e (map tally_shown old) (tally_shown b) at is so_far one)
-
--- the CPUs before one have their numbers, and it has its own
-pub ids_more : (xs : List OnCpu) (c : ℕ) (y : OnCpu) → ((k : ℕ) (x : OnCpu) → k < c → get_elem? xs k ≡ some x → x.view.id ≡ k) → y ≡ get_or xs c y → y.view.id ≡ c
-    → (k : ℕ) (x : OnCpu) → k < c + 1 → get_elem? xs k ≡ some x → x.view.id ≡ k
-ids_more xs c y before here own k x lt at = dite (ℕ_discrete k c)
-    (λ (is : k ≡ c). ap (λ (z : OnCpu). z.view.id) (sym (cpu_at xs k x y at).1 ∙ (ap (λ i. get_or xs i y) is ∙ sym here)) ∙ (own ∙ sym is))
-    (λ (off : k ≢ c). before k x (omega (arith, lt, off)) at)
-
-pub locals_more : (f : OnCpu → ℤ) (xs : List OnCpu) (c : ℕ) (y : OnCpu) (z : ℤ) (items : List ℤ) → c < length xs → items ≡ map f (take c xs) → y ≡ get_or xs c y → z ≡ f y
-    → items ++ z ∷ [] ≡ map f (take (c + 1) xs)
-locals_more f xs c y z items lt so_far here is = (λ i. so_far i ++ (is ∙ ap f here) i ∷ []) ∙ sym (map_more f xs c y lt)
+counts_met k xs cpus slots list all is = all_met tally_shown (λ (y : Tally). length y.locals ≡ cpus) k xs slots list is (λ t e there. length-map xs (local_met k t e.number) ∙ all.count)
 
 pub tally_is : (k : OnKeeper) (xs : List OnCpu) (n t : ℕ) (held total : ℤ) (locals : List ℤ) → locals ≡ locals_met k xs t n → total ≡ less_bias (total_at k.view.totals t)
     → held ≡ sum_of locals +ℤ total

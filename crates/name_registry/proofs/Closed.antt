@@ -86,5 +86,7 @@ closes_run_of z p k log ends xs last taken closed made =
           let t = taken c x is in
           let whole = its.each t.0 x.view x.log x.known_log t.1 in
           record { whole = whole; gone = λ u n freed. its.run.gone u n (freed_more u n x.known_log log whole.known freed); held = its.held x.view.id whole.shown.seated };
+      locals = its.locals;
+      exact = its.exact;
       made = made;
     }

@@ -4,6 +4,7 @@ pub mod Replaced
 pub mod Audits
 pub mod Destroyed
 pub mod Gathered
+pub mod Lent
 pub mod Held
 pub mod Noted
 pub mod Worked

@@ -1,6 +1,6 @@
 -- What an audit says is held of an entry is its tally: by any state that shows the views, by the log, and at rest by the balance of its slot.
 use Rattle.std.proofs.Common.{◌≡◌, ◌≢◌, inl, inr, ⊎_elim, ℕ, zero, suc, ◌+◌, ◌*◌, ◌≤◌, ◌&&◌, ℤ, pos, ◌+ℤ◌, List, [], ◌∷◌, length, get_or, map, fold, cond, sum_by, Bool, true, false, Some, refl, sym, ap, ◌∙◌, subst, arith, ◌-ℤ◌, if◌then◌else◌, ◌++◌, Option}
-use Rattle.std.specs.List.{zip}
+use Rattle.std.specs.List.{All, zip}
 use Rattle.std.proofs.lemmas.Bool.{eq-eqb, ne_eqb, false≢true}
 use Rattle.std.proofs.lemmas.Int.{ints}
 use Rattle.std.proofs.lemmas.Option.{none-some, same_Some}
@@ -218,15 +218,19 @@ module _ (a : Settings) (k : OnKeeper) (xs ys : List OnCpu) (known : IsKeeperOf 
 
 -- What is shown of the list
 
+pub told_right : {X : Type 0} (shown : X → Tally) (a : Settings) (k : OnKeeper) (xs ys : List OnCpu) (list : List X) → IsKeeperOf a k → AreAllCpus a.cpus xs → AreAlike k xs ys
+    → map shown list ≡ tallies_met k xs a.slots → (map shown list ≡ tallies_below k xs a.slots) × All (λ (b : X). IsTallied k xs (shown b)) list
+told_right shown a k xs ys list known all alike met = (
+  met ∙ each_same (tally_met k xs) (tally_of k xs) k.slots a.slots (λ t e there. alike_tally a k xs ys known all alike t e there),
+  all_met shown (IsTallied k xs) k xs a.slots list met
+      (λ t e there. ap (λ (y : Tally). y.held) (alike_tally a k xs ys known all alike t e there) ∙ alike_held a k xs ys known all alike t e there),
+)
+
 pub audit_right : (a : Settings) (k : OnKeeper) (xs ys : List OnCpu) (list : List Balance) → IsKeeperOf a k → AreAllCpus a.cpus xs → AreAlike k xs ys → map tally_shown list ≡ tallies_met k xs a.slots
     → IsAuditOf a k xs list
-audit_right a k xs ys list known all alike met = record {
-  keeper = known;
-  met = met;
-  answer = met ∙ each_same (tally_met k xs) (tally_of k xs) k.slots a.slots (λ t e there. alike_tally a k xs ys known all alike t e there);
-  tally = all_met (IsTallied k xs) k xs a.slots list met
-      (λ t e there. ap (λ (y : Tally). y.held) (alike_tally a k xs ys known all alike t e there) ∙ alike_held a k xs ys known all alike t e there);
-}
+audit_right a k xs ys list known all alike met =
+    let right = told_right tally_shown a k xs ys list known all alike met in
+    record { keeper = known; met = met; answer = right.0; tally = right.1 }
 
 -- What an audit answers is said by the keeper's log and the CPUs alone.
 
@@ -316,7 +320,7 @@ exact_law a k xs s ruled seated =
       tallied = λ list is. is.tally;
       held = λ all list is.
           let rest = run.laws.balance (ap at_rest (sym (seen_by_keeper g k.view run.good shown.keeper).due ∙ is.keeper.view.rest)) in
-          all_met (λ y. y.held ≡ pos (held_of g y.number)) k xs a.slots list is.met
+          all_met tally_shown (λ y. y.held ≡ pos (held_of g y.number)) k xs a.slots list is.met
           (λ t e there. ap (λ (y : Tally). y.held) (own_tally a k xs g t e is.keeper shown there) ∙ references_held a k xs g t e is.keeper all shown rest there);
     }
 

@@ -1,5 +1,5 @@
 -- What an audit answers (localcount(9)), that it is the tally, and the free interlock.
-use Rattle.std.specs.Prelude.{◌≡◌, ℕ, zero, suc, ◌+◌, ◌*◌, ℤ, pos, ◌+ℤ◌, ◌-ℤ◌, ◌==◌, All, Bool, ◌&&◌, List, [], ◌∷◌, ◌++◌, map, length, sum_by, if◌then◌else◌, Option, Some, None, slice_index_or}
+use Rattle.std.specs.Prelude.{◌≡◌, ℕ, zero, suc, ◌+◌, ◌*◌, ◌<◌, ℤ, pos, ◌+ℤ◌, ◌-ℤ◌, ◌==◌, All, Bool, ◌&&◌, List, [], ◌∷◌, ◌++◌, map, length, take, drop, get_or, slice_set, sum_by, if◌then◌else◌, Option, Some, None, IsSome, slice_index_or}
 use mathlib.Core.Option.{some}
 use mathlib.Core.List.{IsPrefix}
 use lib.ListN.{get_elem?}
@@ -7,7 +7,7 @@ use Rattle.atomic_table.specs.Table.{State as Table}
 use Rattle.name_registry.specs.Types.{Change, LogItem, Teller, Cpu, Keeper, Balance, Entry, Settings, Slot, Vacant, Live, Retired, View, KeeperView}
 use Rattle.registry_values.specs.Common.{Tally, bias, less_bias, sum_of, tally_shown, is_retired, slot_at}
 use Rattle.protocol.specs.Common.{IsIn, State, mark_at, total_at, held_at, itself, one_if_used, opening, after, held_of, BalancesAtRest}
-use Rattle.cpu_words.specs.Common.{changes_in, given_up, heard_from, occupant, sum_collected, word_collected, words_collected, IsShownAfter, with_note, keeper_with_note, Good, IsShown, number_at, CpuShown, KeeperShown, Ruled, Shown, RunsLawfully}
+use Rattle.cpu_words.specs.Common.{AreWordsOf, Named, changes_in, given_up, heard_from, occupant, sum_collected, word_collected, words_collected, IsShownAfter, with_note, keeper_with_note, Good, IsShown, number_at, CpuShown, KeeperShown, Ruled, Shown, RunsLawfully}
 use Rattle.passive_list.specs.Common.{OnCpu, IsAtRest, OnKeeper, HeardAndTold}
 use Rattle.name_registry.specs.Locking.{HasLearned, keeper_after_tell}
 
@@ -17,6 +17,24 @@ use Rattle.name_registry.specs.Locking.{HasLearned, keeper_after_tell}
 pub record AreAllCpus (cpus : ℕ) (xs : List OnCpu) : Type 0 where
   pub count : length xs ≡ cpus
   pub each : (c : ℕ) (x : OnCpu) → get_elem? xs c ≡ some x → x.view.id ≡ c
+
+-- What an audit is lent, by the tables of the CPUs: of none, where there is no CPU
+
+-- a CPU is there, and the words are of its table
+abbrev pub AreItsWords : Option Named → Named → Type 0
+AreItsWords None w = ⊥
+AreItsWords (Some z) w = AreWordsOf w z.table z.settings
+
+abbrev pub AreThere : List (Option Named) → Type 0
+AreThere ts = (c : ℕ) → c < length ts → IsSome (get_or ts c None)
+
+-- each is there, and of this table
+abbrev pub AreOf : Named → List (Option Named) → Type 0
+AreOf w ts = (c : ℕ) → c < length ts → get_or ts c None ≡ Some w
+
+pub record AreAllThere (cpus : ℕ) (ts : List (Option Named)) (xs : List OnCpu) : Type 0 where
+  pub all : AreAllCpus cpus xs
+  pub there : AreThere ts
 
 -- the CPU's own net count for n: what it acquired less what it released
 abbrev pub net_of : ℕ → OnCpu → ℤ
@@ -104,6 +122,30 @@ Occupies k t n = (e : Entry) × IsIn e (slot_at k.slots t) × (e.number ≡ n)
 -- some slot has an entry
 abbrev pub IsOccupied : OnKeeper → Type 0
 IsOccupied k = (t : ℕ) × (e : Entry) × IsIn e (slot_at k.slots t)
+
+-- How an audit writes its balances
+
+-- how many of the first slots have an entry
+abbrev pub occupied : OnKeeper → ℕ → ℕ
+occupied k slots = length (places_below k slots)
+
+-- whether the slot has an entry
+abbrev pub entries_in : Slot → ℕ
+entries_in Vacant = 0
+entries_in (Live e) = 1
+entries_in (Retired e) = 1
+
+-- One slot's part of it: where the slot has an entry, the next place says what is said of it.
+pub record WritesNext {P : Type 0} (shown : P → Tally) (said : ℕ → ℕ → Tally) (k : OnKeeper) (t at : ℕ) (old : List P) (at' : ℕ) (new : List P) : Type 0 where
+  pub none : slot_at k.slots t ≡ Vacant → (at' ≡ at) × (new ≡ old)
+  pub some : (e : Entry) → IsIn e (slot_at k.slots t) → (at' ≡ at + 1) × (p : P) × (new ≡ slice_set old at p) × (shown p ≡ said e.number t)
+
+-- the first places say what is said of the entries in the first t slots, and the rest of the list is as before
+pub record AreTold {P : Type 0} (shown : P → Tally) (said : ℕ → ℕ → Tally) (k : OnKeeper) (t at : ℕ) (first list : List P) : Type 0 where
+  pub place : at ≡ occupied k t
+  pub met : map shown (take at list) ≡ each_below said k.slots t
+  pub rest : drop at list ≡ drop at first
+  pub size : length list ≡ length first
 
 -- The tally of n: local references acquired by all CPUs, less those that they released, less those given up under the interlock.
 

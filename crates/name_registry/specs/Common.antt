@@ -6,6 +6,7 @@ pub use Rattle.name_registry.specs.Destroying.{MetLocals, MetReference, MetSecti
 pub use Rattle.name_registry.specs.Changes.{HasAttachedFor, HasAttachedIfaceFor, attach_answer, attach_iface_answer, first_fit, given_entry, room_answer, room_of, HasMade, WeightsTell, number_of}
 pub use Rattle.name_registry.specs.Changes.{unit, weigh, weight, HasDetachedFor, IsDetachAnswer, IsDetachRefusal, IsLivePlace, IsLookupNow, fit_slot, slot_answer}
 pub use Rattle.name_registry.specs.Changes.{AreReplaced, HasReplacedFor, HasReplacedIfaceFor, IsReplaceAnswer, IsReplaceRefusalOf}
+pub use Rattle.name_registry.specs.Auditing.{AreAllThere, AreItsWords, AreOf, AreThere, AreTold, WritesNext, entries_in, occupied}
 pub use Rattle.name_registry.specs.Auditing.{AreAlike, AreAllCpus, AreShown, HasListened, HasToldAll, HaveHeardAndTold, HaveLearned, HavePass, IsAuditBy, IsAuditIn, IsAuditOf, IsKeeperOf, IsShownOn}
 pub use Rattle.name_registry.specs.Auditing.{IsTallied, KnowAll, KnowTheSame, Listed, Occupies, acquired_of, audited, audited_at, audited_below, each_at, each_below, is_collected, listed_at, local_by}
 pub use Rattle.name_registry.specs.Auditing.{local_in, local_met, local_of, locals_met, locals_of, net_met, net_of, net_unless, place_of, places_below, released_of, tallies_below, tallies_met, tally}

@@ -66,6 +66,13 @@ pub record EntersAndFinds (key : Key) (a b : OnCpu) (r : Result Entry Refusal) :
   pub refused : (f : Refusal) → entered ≡ Err f → (r ≡ Err f) × (b ≡ first)
   pub inside : entered ≡ Ok tt → (last : OnCpu) × LooksInside key first last r × EndsAsFound r last b
 
+-- The fast path of an enter with a find told nothing: an enter that began a section, and in it what
+-- the CPU remembers of the key.
+pub record HasEnteredInVain (key : Key) (a c : OnCpu) : Type 0 where
+  pub first : OnCpu
+  pub enters : AnswersEnter a first (Ok tt)
+  pub missed : HasRecalledByMemory key first c None
+
 -- A find, and an acquire of what it found. What is refused is the result, and nothing is acquired.
 pub record FindsAndAcquires (key : Key) (a b : OnCpu) (r : Result (Entry × OnPsref) Refusal) : Type 0 where
   pub looked : Result Entry Refusal

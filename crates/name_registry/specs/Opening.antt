@@ -8,7 +8,7 @@ use mathlib.Core.List.{IsPrefix}
 use Rattle.name_registry.specs.Types.{Settings, CpuView, EndedSeat, KeeperView, LogItem}
 use Rattle.registry_values.specs.Common.{are_fit}
 use Rattle.protocol.specs.Common.{opening, after}
-use Rattle.cpu_words.specs.Common.{Named, Seated, new_cpu, keeper_with, part, CpuShown, EndsRun, IsFreedFrom, IsGoneFrom, IsWholeIn, KeepsHeld, cpu_end}
+use Rattle.cpu_words.specs.Common.{Named, Seated, new_cpu, keeper_with, part, CpuShown, CountExactly, EndsRun, FreesNoLocals, IsFreedFrom, IsGoneFrom, IsWholeIn, KeepsHeld, cpu_end}
 use Rattle.passive_list.specs.Common.{OnCpu, OnPlainCpu, no_memory}
 use Rattle.name_registry.specs.Changes.{weigh}
 use Rattle.name_registry.specs.Locking.{tells_and_hears}
@@ -93,5 +93,9 @@ pub record ClosesRunOf (z : Settings) (parts : ℕ) (xs : List OnCpu) (last : Li
   pub log : List LogItem
   pub run : EndsRun z keeper log last
   pub each : (c : ℕ) (x : OnCpu) → get_elem? xs c ≡ some x → IsInRun run x
+  -- no entry was freed while there was a local reference to it: one that a CPU had acquired and nobody had released
+  pub locals : FreesNoLocals run.seat (after (opening z) run.events).seated run.acts
+  -- what the logs count as held is just what there was
+  pub exact : CountExactly z run.events run.seat run.acts
   -- where these are all CPUs, the changes of the history are those that their calls made, and no more
   pub made : 0 < parts → length xs ≡ parts → weigh keeper.history ≡ made_by xs

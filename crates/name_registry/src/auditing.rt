@@ -1,11 +1,15 @@
 //! The audit of local references (localcount(9)), for a caller that holds the keeper and all CPUs.
+//!
+//! One body serves a registry and C: traits say how it reaches a CPU, which may be missing behind a handle, and how it writes a balance.
 
-ghost use Rattle.std.specs.Prelude.{◌≡◌, ◌↔◌, ◌⊎◌, ◌++◌, ◌+ℤ◌, ◌≤ℤ◌, ◌<◌, ◌≤◌, ◌^◌, All, IfOk, IfErr, IsErrOf, IsTrue, OnErr, length, map, neg_ℤ, pos};
-ghost use Rattle.registry_values.specs.Common.{sum_of, tally_shown};
+ghost use Rattle.std.specs.Prelude.{◌≡◌, ◌↔◌, ◌⊎◌, ◌++◌, ◌+◌, ◌+ℤ◌, ◌≤ℤ◌, ◌<◌, ◌≤◌, ◌^◌, ℕ, All, IfOk, IfErr, IsErrOf, OnErr, IsSome, Option, Some, length, map, take, get_or, neg_ℤ, pos, true, false};
+ghost use Rattle.registry_values.specs.Common.{Tally, slot_at, sum_of, tally_shown};
+ghost use Rattle.protocol.specs.Common.{IsIn};
 ghost use mathlib.Core.List.{IsPrefix};
-ghost use Rattle.cpu_words.specs.Common.{AreWordsOf};
-ghost use Rattle.passive_list.specs.Common.{HasHeardOn, WasShown, has_heard, has_told, place_at};
-ghost use Rattle.name_registry.specs.Auditing.{AreAllCpus, AreAlike, HasListened, HasToldAll, HaveHeardAndTold, HaveLearned, IsAuditBy, IsAuditIn, IsAuditOf, IsOccupied, Occupies, is_collected, local_met, locals_met, place_of, places_below, tallies_met, tally_met};
+ghost use Rattle.cpu_words.specs.Common.{AreWordsOf, Named};
+ghost use Rattle.passive_list.specs.Common.{HasHeardOn, OnCpu, WasShown, has_heard, has_told, place_at};
+ghost use Rattle.name_registry.specs.Types.{Entry};
+ghost use Rattle.name_registry.specs.Auditing.{AreAllCpus, AreAllThere, AreAlike, AreItsWords, AreOf, AreThere, AreTold, HasListened, HasToldAll, HaveHeardAndTold, HaveLearned, IsAuditBy, IsAuditIn, IsAuditOf, IsOccupied, Occupies, WritesNext, entries_in, is_collected, local_met, locals_met, occupied, place_of, places_below, tallies_met, tally_met};
 ghost use Rattle.name_registry.specs.Locking.{keeper_after_tell};
 
 use cpu_words::{Domain, NoteSeat, Words};
@@ -15,6 +19,105 @@ use passive_list::{
 };
 use registry_values::{Balance, MOST_CPUS, MOST_SLOTS, Refusal, Slot, less_bias, sum};
 use std::alloc::{AllocError, Global};
+
+/// How an audit reaches a CPU in what it is lent: the CPU itself, or a handle of one, behind which may be none.
+pub trait ReachesCpu {
+    /// What it is lent.
+    type Lent;
+
+    /// The CPU. Nothing is said of it where there is none.
+    ghost cpu: { Self.Lent → OnCpu };
+
+    /// The CPU's table, if there is a CPU.
+    ghost table: { Self.Lent → Option Named };
+
+    /// Whether it is the CPU with this number.
+    fn is_cpu(lent: &mut Self::Lent, id: u8) -> bool
+        ensures same { lent.new ≡ lent.old }
+        ensures yes { result ≡ true → IsSome (table lent.old) × ((cpu lent.old).view.id ≡ id) }
+        ensures no { result ≡ false → IsSome (table lent.old) → (cpu lent.old).view.id ≡ id → ⊥ };
+
+    /// The CPU hears the note and tells on what it knows then. Conditions: there is one; the words and the note are of its table.
+    fn pass_on(lent: &mut Self::Lent, words: &Words, note: NoteSeat) -> NoteSeat
+        requires words { AreItsWords (table lent.old) words.now }
+        requires note { note.table ≡ words.now.table }
+        ensures table { table lent.new ≡ table lent.old }
+        ensures heard { HasHeardOn note.view (cpu lent.old) (cpu lent.new) }
+        ensures told { IsPrefix note.known_log (cpu lent.new).known_log }
+        ensures shown { WasShown note.view (cpu lent.old) (cpu lent.new) }
+        ensures log { (cpu lent.new).log ≡ (cpu lent.old).log ++ has_heard (cpu lent.old) note.teller ++ has_told (cpu lent.old) }
+        ensures note { (result.table ≡ note.table) × (result.known_log ≡ (cpu lent.new).known_log) }
+        ensures pass { result.view ≡ (cpu lent.new).view.pass };
+
+    /// The CPU's net count for the entry with `number` in the slot `t`, as `local_on` has it. Conditions: there is one, and those of `local_on`.
+    fn local(lent: &mut Self::Lent, keeper: &Keeper, t: u8, number: u64) -> i64
+        requires there { IsSome (table lent.old) }
+        requires entry { (t < MOST_SLOTS) × (0 < number) }
+        ensures same { lent.new ≡ lent.old }
+        ensures value { result ≡ local_met keeper.now.keeper t number (cpu lent.old) }
+        ensures range { (neg_ℤ (pos (2 ^ 50)) ≤ℤ result) × (result ≤ℤ pos (2 ^ 50)) };
+}
+
+/// How an audit writes what it says of an entry into a place of its list.
+pub trait WritesBalance {
+    /// What a place has.
+    type Place;
+
+    /// It has room for the net counts of so many CPUs.
+    ghost fits: { ℕ → Self.Place → Type 0 };
+
+    /// What it says.
+    ghost shown: { Self.Place → Tally };
+
+    /// What it says once this is written.
+    ghost kept: { Tally → Tally };
+
+    fn write(place: &mut Self::Place, number: u64, slot: u8, held: i64, locals: &[i64], total: i64)
+        requires fits { fits (length locals.now) place.old }
+        requires few { length locals.now ≤ MOST_CPUS }
+        ensures { shown place.new ≡ kept (record { number = number; slot = slot; held = held; locals = locals.now; total = total }) };
+}
+
+/// The CPU itself.
+impl<D: Domain> ReachesCpu for Cpu<D> {
+    type Lent = Cpu<D>;
+
+    ghost cpu = { λ x. x };
+
+    ghost table = { λ x. Some (record { table = D.table; settings = D.settings }) };
+
+    fn is_cpu(lent: &mut Cpu<D>, id: u8) -> bool {
+        lent.id() == id
+    }
+
+    fn pass_on(lent: &mut Cpu<D>, words: &Words, note: NoteSeat) -> NoteSeat {
+        hear_on(words, &mut lent.plain, note);
+        tell_on(words, &mut lent.plain)
+    }
+
+    fn local(lent: &mut Cpu<D>, keeper: &Keeper, t: u8, number: u64) -> i64 {
+        local_on(keeper, &lent.plain, t, number)
+    }
+}
+
+/// As it is, over the net counts of as many CPUs.
+impl WritesBalance for Balance {
+    type Place = Balance;
+
+    ghost fits = { λ n b. length b.locals.items ≡ n };
+
+    ghost shown = { tally_shown };
+
+    ghost kept = { λ y. y };
+
+    fn write(place: &mut Balance, number: u64, slot: u8, held: i64, locals: &[i64], total: i64) {
+        place.number = number;
+        place.slot = slot;
+        place.held = held;
+        place.locals.copy_from_slice(locals);
+        place.total = total;
+    }
+}
 
 /// Audits the local references (localcount(9)): returns a `Balance` for each live or retired entry, lowest slot first. It has each CPU's net count,
 /// or 0 if collected; as total what was collected, less what was given up; as `held` their sum.
@@ -51,136 +154,193 @@ pub fn audit_in<D: Domain>(
     ensures unchanged { IsErrOf result Refusal.MissingCpu → (keeper.new ≡ keeper.old) × (cpus.new ≡ cpus.old) }
     ensures words { keeper.new.words ≡ keeper.old.words }
 {
-    if !are_all(keeper.settings().cpus, cpus) {
+    if !are_all::<Cpu<D>>(keeper.settings().cpus, cpus) {
         return Err(Refusal::MissingCpu);
     }
-    gather(words, keeper, cpus);
+    gather::<Cpu<D>>(words, keeper, cpus);
     match balances(alloc, keeper, cpus) {
         Ok(list) => Ok(list),
         Err(_) => Err(Refusal::NoMemory),
     }
 }
 
+/// The balances of all entries, the lowest slot first, in memory that is taken first.
+fn balances<D: Domain>(
+    alloc: Global,
+    keeper: &Keeper,
+    cpus: &mut [Cpu<D>],
+) -> Result<Vec<Balance>, AllocError>
+    requires { length cpus.old ≤ MOST_CPUS }
+    ensures cpus { cpus.new ≡ cpus.old }
+    ensures value { IfOk result (λ list. map tally_shown list.items ≡ tallies_met keeper.now.keeper cpus.old keeper.now.words.settings.slots) }
+    ensures wanted { OnErr result (IsOccupied keeper.now.keeper) }
+{
+    let mut list = blank(alloc, count_entries(keeper), cpus.len())?;
+    write_balances::<Cpu<D>, Balance>(keeper, cpus, &mut list);
+    Ok(list)
+}
+
+/// So many balances of nothing, each with room for so many CPUs.
+fn blank(alloc: Global, count: usize, cpus: usize) -> Result<Vec<Balance>, AllocError>
+    ensures count { IfOk result (λ list. length list.items ≡ count) }
+    ensures fits { IfOk result (λ list. All (λ b. length b.locals.items ≡ cpus) list.items) }
+    ensures wanted { OnErr result (0 < count) }
+{
+    let mut list = Vec::new(alloc);
+    for _ in 0..count {
+        list.push(Balance {
+            number: 0,
+            slot: 0,
+            held: 0,
+            locals: vec![in alloc; 0; cpus]?,
+            total: 0,
+        })?;
+    }
+    Ok(list)
+}
+
 /// Lets all know the same of what the keeper did: the keeper tells, each CPU hears in turn and tells on, and the keeper hears the last one.
-fn gather<D: Domain>(words: &Words, keeper: &mut Keeper, cpus: &mut [Cpu<D>])
+/// Conditions: the words are the keeper's; each CPU is there, and of its table.
+pub fn gather<C: ReachesCpu>(words: &Words, keeper: &mut Keeper, cpus: &mut [C::Lent])
     requires words { AreWordsOf words.now keeper.old.words.table keeper.old.words.settings }
-    requires named { AreWordsOf keeper.old.words D.table D.settings }
-    ensures alike { AreAlike keeper.old.keeper cpus.old cpus.new }
+    requires there { AreOf keeper.old.words (map C.table cpus.old) }
+    ensures alike { AreAlike keeper.old.keeper (map C.cpu cpus.old) (map C.cpu cpus.new) }
     ensures keeper { HasListened keeper.old.keeper keeper.new.keeper }
-    ensures cpus { HaveLearned cpus.old cpus.new }
-    ensures notes { HaveHeardAndTold cpus.old cpus.new }
-    ensures told { HasToldAll keeper.old.keeper cpus.new keeper.new.keeper }
+    ensures cpus { HaveLearned (map C.cpu cpus.old) (map C.cpu cpus.new) }
+    ensures notes { HaveHeardAndTold (map C.cpu cpus.old) (map C.cpu cpus.new) }
+    ensures told { HasToldAll keeper.old.keeper (map C.cpu cpus.new) keeper.new.keeper }
+    ensures tables { map C.table cpus.new ≡ map C.table cpus.old }
     ensures words { keeper.new.words ≡ keeper.old.words }
 {
     let mut note = tell_keeper(words, keeper);
     for c in 0..cpus.len() {
-        note = pass_on(words, &mut cpus[c], note);
+        note = C::pass_on(&mut cpus[c], words, note);
     }
     hear_keeper(words, keeper, note);
 }
 
-/// One CPU hears the note and tells on what it knows then.
-fn pass_on<D: Domain>(words: &Words, cpu: &mut Cpu<D>, note: NoteSeat) -> NoteSeat
-    requires words { AreWordsOf words.now D.table D.settings }
-    requires note { note.table ≡ D.table }
-    ensures heard { HasHeardOn note.view cpu.old cpu.new }
-    ensures told { IsPrefix note.known_log cpu.new.known_log }
-    ensures shown { WasShown note.view cpu.old cpu.new }
-    ensures log { cpu.new.log ≡ cpu.old.log ++ has_heard cpu.old note.teller ++ has_told cpu.old }
-    ensures note { (result.table ≡ D.table) × (result.known_log ≡ cpu.new.known_log) }
-    ensures pass { result.view ≡ cpu.new.view.pass }
-{
-    hear_on(words, &mut cpu.plain, note);
-    tell_on(words, &mut cpu.plain)
-}
-
 /// Whether these are so many CPUs, 0, 1, .., in this order.
-fn are_all<D: Domain>(count: u8, cpus: &[Cpu<D>]) -> bool
-    ensures { IsTrue result ↔ AreAllCpus count cpus.now }
+pub fn are_all<C: ReachesCpu>(count: u8, cpus: &mut [C::Lent]) -> bool
+    ensures same { cpus.new ≡ cpus.old }
+    ensures yes { result ≡ true → AreAllThere count (map C.table cpus.old) (map C.cpu cpus.old) }
+    ensures no { result ≡ false → AreAllThere count (map C.table cpus.old) (map C.cpu cpus.old) → ⊥ }
 {
     if cpus.len() != count as usize {
         return false;
     }
     for c in 0..count {
-        if cpus[c as usize].id() != c {
+        if !C::is_cpu(&mut cpus[c as usize], c) {
             return false;
         }
     }
     true
 }
 
-fn balances<D: Domain>(
-    alloc: Global,
-    keeper: &Keeper,
-    cpus: &[Cpu<D>],
-) -> Result<Vec<Balance>, AllocError>
-    requires { length cpus.now ≤ MOST_CPUS }
-    ensures value { IfOk result (λ list. map tally_shown list.items ≡ tallies_met keeper.now.keeper cpus.now keeper.now.words.settings.slots) }
-    ensures wanted { OnErr result (IsOccupied keeper.now.keeper) }
+/// How many slots have an entry.
+pub fn count_entries(keeper: &Keeper) -> usize
+    ensures { result ≡ occupied keeper.now.keeper keeper.now.words.settings.slots }
 {
-    let mut list = Vec::new(alloc);
-    let slots = keeper.settings().slots;
-    for t in 0..slots {
-        match keeper.slot(t) {
-            Slot::Vacant => (),
-            Slot::Live(entry) | Slot::Retired(entry) => {
-                list.push(balance(alloc, keeper, cpus, t, entry.number)?)?;
-            }
+    let mut count = 0;
+    for t in 0..keeper.settings().slots {
+        count += entries_in(keeper.slot(t));
+    }
+    count
+}
+
+fn entries_in(slot: Slot) -> usize
+    ensures { result ≡ entries_in slot }
+{
+    match slot {
+        Slot::Vacant => 0,
+        Slot::Live(_) | Slot::Retired(_) => 1,
+    }
+}
+
+/// Writes the balance of each entry, the lowest-numbered slot first. The rest of the list stays.
+/// Conditions: each CPU is there; the list has a place for each entry, and each place room for the CPUs.
+pub fn write_balances<C: ReachesCpu, W: WritesBalance>(
+    keeper: &Keeper,
+    cpus: &mut [C::Lent],
+    list: &mut [W::Place],
+)
+    requires there { AreThere (map C.table cpus.old) }
+    requires few { length cpus.old ≤ MOST_CPUS }
+    requires room { occupied keeper.now.keeper keeper.now.words.settings.slots ≤ length list.old }
+    requires fits { All (W.fits (length cpus.old)) list.old }
+    ensures cpus { cpus.new ≡ cpus.old }
+    ensures list { AreTold W.shown (λ n t. W.kept (tally_met keeper.now.keeper (map C.cpu cpus.old) n t)) keeper.now.keeper keeper.now.words.settings.slots (occupied keeper.now.keeper keeper.now.words.settings.slots) list.old list.new }
+{
+    let mut at = 0;
+    for t in 0..keeper.settings().slots {
+        at = write_next::<C, W>(keeper, cpus, list, t, at);
+    }
+}
+
+/// Writes the balance of the slot's entry, if it has one. The answer is the next place in the list.
+fn write_next<C: ReachesCpu, W: WritesBalance>(
+    keeper: &Keeper,
+    cpus: &mut [C::Lent],
+    list: &mut [W::Place],
+    t: u8,
+    at: usize,
+) -> usize
+    requires there { AreThere (map C.table cpus.old) }
+    requires few { length cpus.old ≤ MOST_CPUS }
+    requires room { (e : Entry) → IsIn e (slot_at keeper.now.keeper.slots t) → at < length list.old }
+    requires fits { (p : W.Place) → at < length list.old → W.fits (length cpus.old) (get_or list.old at p) }
+    ensures cpus { cpus.new ≡ cpus.old }
+    ensures next { WritesNext W.shown (λ n u. W.kept (tally_met keeper.now.keeper (map C.cpu cpus.old) n u)) keeper.now.keeper t at list.old result list.new }
+{
+    match keeper.slot(t) {
+        Slot::Vacant => at,
+        Slot::Live(entry) | Slot::Retired(entry) => {
+            write_balance::<C, W>(keeper, cpus, t, entry.number, &mut list[at]);
+            at + 1
         }
     }
-    Ok(list)
 }
 
-/// What the counts say of the entry with `number` in the slot `t`.
-fn balance<D: Domain>(
-    alloc: Global,
+/// Writes what the counts say of the entry with this number in the slot.
+fn write_balance<C: ReachesCpu, W: WritesBalance>(
     keeper: &Keeper,
-    cpus: &[Cpu<D>],
+    cpus: &mut [C::Lent],
     t: u8,
     number: u64,
-) -> Result<Balance, AllocError>
+    place: &mut W::Place,
+)
+    requires there { AreThere (map C.table cpus.old) }
+    requires few { length cpus.old ≤ MOST_CPUS }
     requires entry { Occupies keeper.now.keeper t number }
-    requires few { length cpus.now ≤ MOST_CPUS }
-    ensures { IfOk result (λ b. tally_shown b ≡ tally_met keeper.now.keeper cpus.now number t) }
+    requires fits { W.fits (length cpus.old) place.old }
+    ensures cpus { cpus.new ≡ cpus.old }
+    ensures tally { W.shown place.new ≡ W.kept (tally_met keeper.now.keeper (map C.cpu cpus.old) number t) }
 {
     let total = less_bias(keeper.rows()[t as usize].total_or_bias());
-    let locals = locals(alloc, keeper, cpus, t, number)?;
-    let held = sum(&locals) + total;
-    Ok(Balance {
-        number,
-        slot: t,
-        held,
-        locals,
-        total,
-    })
+    let mut row = [0; MOST_CPUS];
+    read_locals::<C>(keeper, cpus, t, number, &mut row);
+    let locals = &row[..cpus.len()];
+    let held = sum(locals) + total;
+    W::write(place, number, t, held, locals, total);
 }
 
-/// Of each CPU its net count for the entry.
-fn locals<D: Domain>(
-    alloc: Global,
+/// Reads of each CPU its net count for the entry.
+fn read_locals<C: ReachesCpu>(
     keeper: &Keeper,
-    cpus: &[Cpu<D>],
+    cpus: &mut [C::Lent],
     t: u8,
     number: u64,
-) -> Result<Vec<i64>, AllocError>
-    requires { (t < MOST_SLOTS) × (0 < number) }
-    ensures value { IfOk result (λ list. list.items ≡ locals_met keeper.now.keeper cpus.now t number) }
-    ensures range { IfOk result (λ list. All (λ z. (neg_ℤ (pos (2 ^ 50)) ≤ℤ z) × (z ≤ℤ pos (2 ^ 50))) list.items) }
+    row: &mut [i64; MOST_CPUS],
+)
+    requires there { AreThere (map C.table cpus.old) }
+    requires few { length cpus.old ≤ MOST_CPUS }
+    requires entry { (t < MOST_SLOTS) × (0 < number) }
+    ensures cpus { cpus.new ≡ cpus.old }
+    ensures value { take (length cpus.old) row.new ≡ locals_met keeper.now.keeper (map C.cpu cpus.old) t number }
+    ensures range { (c : ℕ) → c < length cpus.old → (neg_ℤ (pos (2 ^ 50)) ≤ℤ get_or row.new c (pos 0)) × (get_or row.new c (pos 0) ≤ℤ pos (2 ^ 50)) }
 {
-    let mut list = Vec::new(alloc);
-    for cpu in cpus {
-        list.push(local(keeper, cpu, t, number))?;
+    for c in 0..cpus.len() {
+        row[c] = C::local(&mut cpus[c], keeper, t, number);
     }
-    Ok(list)
-}
-
-/// A CPU's net count for the entry, by its place; 0 where the keeper has collected it.
-fn local<D: Domain>(keeper: &Keeper, cpu: &Cpu<D>, t: u8, number: u64) -> i64
-    requires { (t < MOST_SLOTS) × (0 < number) }
-    ensures value { result ≡ local_met keeper.now.keeper t number cpu.now }
-    ensures range { (neg_ℤ (pos (2 ^ 50)) ≤ℤ result) × (result ≤ℤ pos (2 ^ 50)) }
-{
-    local_on(keeper, &cpu.plain, t, number)
 }
 
 /// What an audit says of one CPU, for a caller that is lent the CPUs one at a time, each naming its own table: its net count for the entry
@@ -191,7 +351,7 @@ pub fn local_on(keeper: &Keeper, cpu: &PlainCpu, t: u8, number: u64) -> i64
     ensures value { result ≡ local_met keeper.now.keeper t number cpu.now.cpu }
     ensures range { (neg_ℤ (pos (2 ^ 50)) ≤ℤ result) × (result ≤ℤ pos (2 ^ 50)) }
 {
-    if is_collected(keeper, t, cpu.id) {
+    if is_collected(keeper, t, cpu.row.cpu) {
         0
     } else {
         less_bias(net_count(net_place(cpu.net.as_slice(), t), number))

@@ -42,7 +42,10 @@ impl<D: Domain> Registry<D> {
     /// The contract is the theorem of a finished run, for the keeper and all these CPUs: one list of events leads from the opening to these words,
     /// on any schedule, and all laws of the protocol hold of it.
     ///
-    /// - `each`: each call of each CPU is in it, as the CPU's log is its whole part. No entry was freed while the CPU held it (`held`).
+    /// - `each`: each call of each CPU is in it, as the CPU's log is its whole part. No entry was freed while the CPU held it: in a section that
+    ///   had found it, or by a passive reference, acquired, copied or got by memory (`held`).
+    /// - `locals`: nor was one freed while there was a local reference to it, also where that was acquired on one CPU and released on another.
+    /// - `exact`: at each event, the logs count as many references as there are.
     /// - `made`: where these are all CPUs of the registry, each change of its history is one that some call returned.
     pub fn close_all(self, cpus: Vec<Cpu<D>>) -> LastWords
         ensures settings { result.settings ≡ D.settings }

@@ -29,7 +29,9 @@ mod with_driver;
 
 pub use advancing::advance_in;
 pub use attaching::{attach_iface_by_name_in, attach_iface_in, attach_in, detach_in};
-pub use auditing::{audit_in, local_on};
+pub use auditing::{
+    ReachesCpu, WritesBalance, are_all, audit_in, count_entries, gather, local_on, write_balances,
+};
 pub use blank::Blank;
 pub use destroying::advance_for;
 pub use first_fit::room_in;
@@ -37,7 +39,8 @@ pub use getting_local::{get_local, get_local_or};
 pub use glancing::{begin, glance_at_all, pass_all};
 pub use law::{exact_audit, free_interlock, weights_law};
 pub use looking_up::{
-    enter_find_in, find_fast, find_slow, get_fast, get_slow, look_up_fast, look_up_slow,
+    enter_find_fast, enter_find_nested, enter_find_slow, find_fast, find_slow, get_fast, get_slow,
+    look_up_anew, look_up_fast, look_up_nested,
 };
 pub use registry::Registry;
 pub use releasing::release_for;

@@ -5,7 +5,7 @@ ghost use Rattle.std.specs.Prelude.{◌≡◌, ◌≢◌, ◌<◌, IfOk, IfSome,
 ghost use Rattle.protocol.specs.Common.{entry_with};
 ghost use Rattle.cpu_words.specs.Common.{AreWordsOf, key_with};
 ghost use Rattle.passive_list.specs.Common.{HasRecalledByMemory, OnCpu, entry_seen, may_begin};
-ghost use Rattle.name_registry.specs.LookingUp.{EntersAndFinds, FindsAndAcquires, Gets, GetsAnew, GetsFound, GetsInSection, HasMissed, HasNotGot, LooksInside, LooksUp, MayBegin, found_or, got_of, looked_up};
+ghost use Rattle.name_registry.specs.LookingUp.{EntersAndFinds, FindsAndAcquires, Gets, GetsAnew, GetsFound, GetsInSection, HasEnteredInVain, HasMissed, HasNotGot, LooksInside, LooksUp, MayBegin, found_or, got_of, looked_up};
 
 use crate::registry::Registry;
 use cpu_words::{Domain, Words};
@@ -82,21 +82,36 @@ pub fn look_up_fast(words: &Words, cpu: &mut PlainCpu, key: Key) -> Option<Seen>
 /// What `look_up_in` does after `look_up_fast` returned `None`. `a` is the CPU before that. Condition: the words are its table's.
 #[inline(always)]
 #[tactic(auto, using(crate::proofs::LookedUp::looked_nested))]
-pub fn look_up_slow(words: &Words, cpu: &mut PlainCpu, key: Key) -> Result<Option<Seen>, Refusal>
+fn look_up_slow(words: &Words, cpu: &mut PlainCpu, key: Key) -> Result<Option<Seen>, Refusal>
     requires words { AreWordsOf words.now cpu.old.words.table cpu.old.words.settings }
     ensures looks { (a : OnCpu) → HasMissed key a cpu.old.cpu → LooksUp key a cpu.new.cpu (looked_up key result) }
     ensures slot { IfOk result (λ seen. IfSome seen (λ s. s.slot < MOST_SLOTS)) }
     ensures words { cpu.new.words ≡ cpu.old.words }
 {
     if may_begin_on(words, cpu) {
-        return Ok(find_anew(words, cpu, key.kind, key.name));
+        return Ok(look_up_anew(words, cpu, key));
     }
     look_up_nested(words, cpu, key)
 }
 
-/// A lookup where it may begin no section.
+/// The same from outside, with a section left. Conditions: the words are its table's; it may begin
+/// a section.
+#[inline(always)]
+#[tactic(auto, using(crate::proofs::LookedUp::looked_anew))]
+pub fn look_up_anew(words: &Words, cpu: &mut PlainCpu, key: Key) -> Option<Seen>
+    requires words { AreWordsOf words.now cpu.old.words.table cpu.old.words.settings }
+    requires may { MayBegin cpu.old.cpu }
+    ensures looks { (a : OnCpu) → HasMissed key a cpu.old.cpu → LooksUp key a cpu.new.cpu (found_or (entry_seen key result)) }
+    ensures slot { IfSome result (λ seen. seen.slot < MOST_SLOTS) }
+    ensures words { cpu.new.words ≡ cpu.old.words }
+{
+    find_anew(words, cpu, key.kind, key.name)
+}
+
+/// A lookup where it may begin no section. Conditions: the words are its table's; it may begin
+/// none.
 #[inline(never)]
-fn look_up_nested(words: &Words, cpu: &mut PlainCpu, key: Key) -> Result<Option<Seen>, Refusal>
+pub fn look_up_nested(words: &Words, cpu: &mut PlainCpu, key: Key) -> Result<Option<Seen>, Refusal>
     requires words { AreWordsOf words.now cpu.old.words.table cpu.old.words.settings }
     requires not { MayBegin cpu.old.cpu → ⊥ }
     ensures looks { LooksUp key cpu.old.cpu cpu.new.cpu (looked_up key result) }
@@ -145,30 +160,63 @@ pub fn find_slow(words: &Words, cpu: &mut PlainCpu, key: Key) -> Option<Seen>
     requires inside { cpu.old.cpu.view.begin ≢ None }
     ensures looks { (a : OnCpu) → HasRecalledByMemory key a cpu.old.cpu None → LooksInside key a cpu.new.cpu (found_or (entry_seen key result)) }
     ensures slot { IfSome result (λ seen. seen.slot < MOST_SLOTS) }
+    ensures inside { cpu.new.cpu.view.begin ≡ cpu.old.cpu.view.begin }
     ensures words { cpu.new.words ≡ cpu.old.words }
 {
     find_and_remember(words, cpu, key.kind, key.name)
 }
 
-/// Enters a section, or the open one once more, and looks an entry up in it. Returns its words: it is the last found entry then, and the CPU stays
-/// inside. Where there is none, or this is refused, the CPU is as deep inside as before.
-/// Refused: `TooDeep`, `SectionsSpent`, as `enter`, and nothing has changed. Condition: the words are the CPU's table's.
+/// The fast path of an enter with a find, from outside with a section left: an enter, and the entry
+/// that the CPU remembers, if one load says that it is live. It is the last found entry then, and
+/// the CPU stays inside. `None`: it has entered, and no more is said; `enter_find_slow` follows.
+/// Conditions: the words are the CPU's table's; it may begin a section.
 #[inline(always)]
-pub fn enter_find_in(words: &Words, cpu: &mut PlainCpu, key: Key) -> Result<Option<Seen>, Refusal>
+pub fn enter_find_fast(words: &Words, cpu: &mut PlainCpu, key: Key) -> Option<Seen>
     requires words { AreWordsOf words.now cpu.old.words.table cpu.old.words.settings }
-    ensures finds { EntersAndFinds key cpu.old.cpu cpu.new.cpu (looked_up key result) }
-    ensures slot { IfOk result (λ seen. IfSome seen (λ s. s.slot < MOST_SLOTS)) }
+    requires may { MayBegin cpu.old.cpu }
+    ensures finds { IfSome result (λ seen. EntersAndFinds key cpu.old.cpu cpu.new.cpu (found_or (entry_seen key (Some seen)))) }
+    ensures missed { result ≡ None → HasEnteredInVain key cpu.old.cpu cpu.new.cpu }
+    ensures inside { cpu.new.cpu.view.begin ≢ None }
+    ensures slot { IfSome result (λ seen. seen.slot < MOST_SLOTS) }
     ensures words { cpu.new.words ≡ cpu.old.words }
 {
-    if may_begin_on(words, cpu) {
-        return enter_and_find(words, cpu, key);
+    match enter_on(words, cpu) {
+        Ok(()) => find_fast(words, cpu, key),
+        Err(_) => None,
     }
-    enter_find_nested(words, cpu, key)
 }
 
-/// The same where it may begin no section. It stands apart, so that from outside nothing is tested twice.
+/// What an enter with a find does after `enter_find_fast` returned `None`: a search, and an exit
+/// where that finds nothing. `a` is the CPU before the enter. Conditions: the words are the CPU's
+/// table's; inside.
+#[inline(always)]
+pub fn enter_find_slow(words: &Words, cpu: &mut PlainCpu, key: Key) -> Option<Seen>
+    requires words { AreWordsOf words.now cpu.old.words.table cpu.old.words.settings }
+    requires inside { cpu.old.cpu.view.begin ≢ None }
+    ensures finds { (a : OnCpu) → HasEnteredInVain key a cpu.old.cpu → EntersAndFinds key a cpu.new.cpu (found_or (entry_seen key result)) }
+    ensures slot { IfSome result (λ seen. seen.slot < MOST_SLOTS) }
+    ensures words { cpu.new.words ≡ cpu.old.words }
+{
+    match find_slow(words, cpu, key) {
+        Some(seen) => Some(seen),
+        None => {
+            exit_on(words, cpu);
+            None
+        }
+    }
+}
+
+/// Enters a section, or the open one once more, and looks an entry up in it. Returns its words: it
+/// is the last found entry then, and the CPU stays inside. Where there is none, or this is refused,
+/// the CPU is as deep inside as before. It stands apart, for a CPU that may begin no section.
+/// Refused: `TooDeep`, `SectionsSpent`, as `enter`, and nothing has changed. Condition: the words
+/// are the CPU's table's.
 #[inline(never)]
-fn enter_find_nested(words: &Words, cpu: &mut PlainCpu, key: Key) -> Result<Option<Seen>, Refusal>
+pub fn enter_find_nested(
+    words: &Words,
+    cpu: &mut PlainCpu,
+    key: Key,
+) -> Result<Option<Seen>, Refusal>
     requires words { AreWordsOf words.now cpu.old.words.table cpu.old.words.settings }
     ensures finds { EntersAndFinds key cpu.old.cpu cpu.new.cpu (looked_up key result) }
     ensures slot { IfOk result (λ seen. IfSome seen (λ s. s.slot < MOST_SLOTS)) }

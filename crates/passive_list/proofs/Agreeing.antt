@@ -7,7 +7,7 @@ use Rattle.std.specs.List.{Contains}
 use Rattle.std.proofs.lemmas.Bool.{ltb-true}
 use mathlib.Core.List.{IsPrefix}
 use Rattle.atomic_table.specs.Seated.{TableId}
-use Rattle.passive_list.specs.Types.{Entry, Change, Settings, CpuView, Key, MOST_SLOTS, Search, Enter, Done, Cpu, Exit}
+use Rattle.passive_list.specs.Types.{Entry, Change, Settings, Row, CpuView, Key, MOST_SLOTS, Search, Enter, Done, Cpu, Exit}
 use Rattle.registry_values.specs.Common.{are_fit, bias}
 use Rattle.registry_values.proofs.Fit.{ranges}
 use Rattle.registry_values.proofs.Answers.{same_test}
@@ -15,7 +15,7 @@ use Rattle.protocol.specs.Common.{IsAttached}
 use Rattle.protocol.proofs.Cells.{get_or_all}
 use Rattle.protocol.proofs.Occupied.{in_within}
 use Rattle.protocol.proofs.History.{attached_within}
-use Rattle.cpu_words.specs.Common.{IsShownCpu, number_at, references_to, depth_of, new_cpu, HasEntered, HasExited, did, SeatMakes, Seated, MaySeek, IsIdle, MayExit}
+use Rattle.cpu_words.specs.Common.{IsRowOf, IsShownCpu, number_at, references_to, depth_of, new_cpu, HasEntered, HasExited, did, SeatMakes, Seated, MaySeek, IsIdle, MayExit}
 use Rattle.cpu_words.proofs.seats.Seating.{found_is_in, new_cpu_is_shown, entered_whole, step_is_shown}
 use Rattle.cpu_words.proofs.shown.Seeing.{attached_prefix, seen_of}
 use Rattle.cpu_words.proofs.by_cpu.Passives.{known_of}
@@ -42,12 +42,12 @@ inside : (b : ℕ) → DepthAgrees (Some b) 1
 inside b = record { outside = (λ (q : Some b ≡ None). cc, λ (q : 1 ≡ 0). absurd (omega arith)); most = omega arith }
 
 -- a new CPU
-pub new_agrees : (z : TableId) (a : Settings) (t : TableId) (c : ℕ) → t ≡ z → IsTrue (are_fit a) → c < a.cpus
-    → IsOurCpu z a t (new_cpu a c) c 0 0 no_found (replicate a.slots no_place) (replicate a.slots no_place) (no_memory a.slots)
-new_agrees z a t c table fit lt =
+pub new_agrees : (z : TableId) (a : Settings) (t : TableId) (r : Row) → t ≡ z → IsTrue (are_fit a) → r.cpu < a.cpus → IsRowOf a.slots r
+    → IsOurCpu z a t (new_cpu a r.cpu) r 0 0 no_found (replicate a.slots no_place) (replicate a.slots no_place) (no_memory a.slots)
+new_agrees z a t r table fit lt row =
     let limit : 0 + 0 ≤ a.section_limit = omega arith in
     let memory = none_remembered a.slots [] (omega (arith, (ranges a fit).some_slot)) (ranges a fit).slots in
-    assumption (limit, outside, new_passive a c, new_net a c, memory, new_cpu_is_shown a fit c lt)
+    assumption (limit, outside, new_passive a r.cpu, new_net a r.cpu, memory, new_cpu_is_shown a fit r.cpu lt)
 
 -- what was read at a slot is its place
 pub place_is : (ps : List NumberedCount) (t : ℕ) (p : NumberedCount) → p ≡ slice_index_or ps t p → t < length ps → p ≡ place_at ps t
@@ -74,7 +74,7 @@ net_same x y l settings met acquired released agree = record {
 }
 
 -- a section begins
-pub entered_agrees : (z : TableId) (a : Settings) (t u : TableId) (x y : CpuView) (c w d : ℕ) (e : Found) (ps ns : List NumberedCount) (ms : Memory)
+pub entered_agrees : (z : TableId) (a : Settings) (t u : TableId) (x y : CpuView) (c : Row) (w d : ℕ) (e : Found) (ps ns : List NumberedCount) (ms : Memory)
     → IsOurCpu z a t x c w d e ps ns ms → IsShownCpu y → u ≡ t → d ≡ 0 → w < a.section_limit → HasEntered x y → IsOurCpu z a u y c w 1 e ps ns ms
 entered_agrees z a t u x y c w d e ps ns ms our is_shown same shallow room had =
     let p = y.pass in
@@ -98,7 +98,7 @@ opened None some = absurd (some refl)
 opened (Some b) some = refl
 
 -- a section ends
-pub exited_agrees : (z : TableId) (a : Settings) (t u : TableId) (x y : CpuView) (c w d : ℕ) (e : Found) (ps ns : List NumberedCount) (ms : Memory)
+pub exited_agrees : (z : TableId) (a : Settings) (t u : TableId) (x y : CpuView) (c : Row) (w d : ℕ) (e : Found) (ps ns : List NumberedCount) (ms : Memory)
     → IsOurCpu z a t x c w d e ps ns ms → IsShownCpu y → u ≡ t → d ≡ 1 → HasExited x y → IsOurCpu z a u y c (w + 1) 0 (record e { number = 0 }) ps ns ms
 exited_agrees z a t u x y c w d e ps ns ms our is_shown same last had =
     let some : x.begin ≢ None = λ q. absurd (let none : d ≡ 0 = our.depth.outside.0 q in omega arith) in
@@ -116,7 +116,7 @@ exited_agrees z a t u x y c w d e ps ns ms our is_shown same last had =
     ))
 
 -- the pass grows, another entry may be the last found one, and another note may lie beside the view
-pub seen_agrees : (z : TableId) (a : Settings) (t u : TableId) (x y : CpuView) (c w d : ℕ) (e k : Found) (f : Option Entry) (ps ns : List NumberedCount) (ms : Memory) (h : List Change)
+pub seen_agrees : (z : TableId) (a : Settings) (t u : TableId) (x y : CpuView) (c : Row) (w d : ℕ) (e k : Found) (f : Option Entry) (ps ns : List NumberedCount) (ms : Memory) (h : List Change)
     → IsOurCpu z a t x c w d e ps ns ms → IsShownCpu y → u ≡ t → IsPrefix x.pass y.pass → y ≡ record x { pass = y.pass; found = f; noted_pass = h } → IsKept k f → IsOurCpu z a u y c w d k ps ns ms
 seen_agrees z a t u x y c w d e k f ps ns ms h our is_shown same longer is kept =
     let z0 : CpuView = record x { pass = y.pass; found = f; noted_pass = h } in
@@ -130,12 +130,12 @@ seen_agrees z a t u x y c w d e k f ps ns ms h our is_shown same longer is kept 
       our,
     ))
 
-pub noted_agrees : (z : TableId) (a : Settings) (t u : TableId) (x y : CpuView) (c w d : ℕ) (e : Found) (ps ns : List NumberedCount) (ms : Memory) (h : List Change)
+pub noted_agrees : (z : TableId) (a : Settings) (t u : TableId) (x y : CpuView) (c : Row) (w d : ℕ) (e : Found) (ps ns : List NumberedCount) (ms : Memory) (h : List Change)
     → IsOurCpu z a t x c w d e ps ns ms → IsShownCpu y → u ≡ t → IsPrefix x.pass y.pass → y ≡ record x { pass = y.pass; noted_pass = h } → IsOurCpu z a u y c w d e ps ns ms
 noted_agrees z a t u x y c w d e ps ns ms h our is_shown same longer is = seen_agrees z a t u x y c w d e e x.found ps ns ms h our is_shown same longer is our.found
 
 -- a lookup is over
-pub looked_up_agrees : (z : TableId) (a : Settings) (t u : TableId) (x y : CpuView) (c w d : ℕ) (e k : Found) (f : Option Entry) (ps ns : List NumberedCount) (ms : Memory) (key : Key)
+pub looked_up_agrees : (z : TableId) (a : Settings) (t u : TableId) (x y : CpuView) (c : Row) (w d : ℕ) (e k : Found) (f : Option Entry) (ps ns : List NumberedCount) (ms : Memory) (key : Key)
     → IsOurCpu z a t x c w d e ps ns ms → IsShownCpu y → u ≡ t → IsKept k f → HasLookedUp key x y f → IsOurCpu z a u y c w d k ps ns ms
 looked_up_agrees z a t u x y c w d e k f ps ns ms key our is_shown same kept had =
     let p = y.pass in
@@ -143,12 +143,12 @@ looked_up_agrees z a t u x y c w d e k f ps ns ms key our is_shown same kept had
     seen_agrees z a t u x y c w d e k f ps ns ms x.noted_pass our is_shown same had.pass is kept
 
 -- the data of a CPU agree with its view by the table and the settings that its own seat has
-pub own_agrees : (z : TableId) (a : Settings) (t : TableId) (x : CpuView) (c w d : ℕ) (e : Found) (ps ns : List NumberedCount) (ms : Memory) → IsOurCpu z a t x c w d e ps ns ms
+pub own_agrees : (z : TableId) (a : Settings) (t : TableId) (x : CpuView) (c : Row) (w d : ℕ) (e : Found) (ps ns : List NumberedCount) (ms : Memory) → IsOurCpu z a t x c w d e ps ns ms
     → IsOurCpu t x.settings t x c w d e ps ns ms
 own_agrees z a t x c w d e ps ns ms our = subst (λ (s : Settings). IsOurCpu t s t x c w d e ps ns ms) (sym our.settings) (assumption our)
 
 -- other entries of the pass are remembered
-pub memory_agrees : (z : TableId) (a : Settings) (t : TableId) (x : CpuView) (c w d : ℕ) (e : Found) (ps ns : List NumberedCount) (ms m : Memory) → IsOurCpu z a t x c w d e ps ns ms
+pub memory_agrees : (z : TableId) (a : Settings) (t : TableId) (x : CpuView) (c : Row) (w d : ℕ) (e : Found) (ps ns : List NumberedCount) (ms m : Memory) → IsOurCpu z a t x c w d e ps ns ms
     → Remembers x.settings.slots x.pass m → IsOurCpu z a t x c w d e ps ns m
 memory_agrees z a t x c w d e ps ns ms m our kept = assumption (kept, our)
 
@@ -205,7 +205,7 @@ few None = omega arith
 few (Some b) = omega arith
 
 -- the CPU may begin a section exactly where it has ended fewer than that
-pub may_begin_is : (z : TableId) (a : Settings) (t : TableId) (x : CpuView) (c w d : ℕ) (e : Found) (ps ns : List NumberedCount) (ms : Memory) (limit : ℕ) → IsOurCpu z a t x c w d e ps ns ms → limit ≡ a.section_limit
+pub may_begin_is : (z : TableId) (a : Settings) (t : TableId) (x : CpuView) (c : Row) (w d : ℕ) (e : Found) (ps ns : List NumberedCount) (ms : Memory) (limit : ℕ) → IsOurCpu z a t x c w d e ps ns ms → limit ≡ a.section_limit
     → nat_lt w limit ≡ may_begin x
 may_begin_is z a t x c w d e ps ns ms limit our is =
     let word = our.section.word in
@@ -213,7 +213,7 @@ may_begin_is z a t x c w d e ps ns ms limit our is =
     same_test w limit x.section (2 * x.settings.section_limit) (λ lt. omega (arith, lt, word, is, most, few x.begin)) (λ ge. omega (arith, ge, word, is, most))
 
 -- so it has then
-pub unspent : (z : TableId) (a : Settings) (t : TableId) (x : CpuView) (c w d : ℕ) (e : Found) (ps ns : List NumberedCount) (ms : Memory) → IsOurCpu z a t x c w d e ps ns ms → IsTrue (may_begin x)
+pub unspent : (z : TableId) (a : Settings) (t : TableId) (x : CpuView) (c : Row) (w d : ℕ) (e : Found) (ps ns : List NumberedCount) (ms : Memory) → IsOurCpu z a t x c w d e ps ns ms → IsTrue (may_begin x)
     → w < a.section_limit
 unspent z a t x c w d e ps ns ms our may = ltb-true w a.section_limit (may_begin_is z a t x c w d e ps ns ms a.section_limit our refl ∙ may)
 
@@ -265,8 +265,8 @@ are_kept None = refl
 are_kept (Some e) = (refl, refl, refl)
 
 -- outside and with nothing found again, as before, and one section more is ended
-pub from_outside_agrees : (z : TableId) (a : Settings) (t u : TableId) (x y : Seated CpuView) (v w : CpuView) (c n m d : ℕ) (e : Found) (f : Option Entry) (ps ns : List NumberedCount) (ms : Memory) (key : Key) (b : OnCpu)
-    → IsOurCpu z a t x.view c n d e ps ns ms → cpu_at x d ms ≡ b → b.depth ≡ 0 → IsTrue (may_begin b.view) → u ≡ t → SeatMakes Cpu (Enter c) Done x y → HasEntered x.view y.view
+pub from_outside_agrees : (z : TableId) (a : Settings) (t u : TableId) (x y : Seated CpuView) (v w : CpuView) (c : Row) (n m d : ℕ) (e : Found) (f : Option Entry) (ps ns : List NumberedCount) (ms : Memory) (key : Key) (b : OnCpu)
+    → IsOurCpu z a t x.view c n d e ps ns ms → cpu_at x d ms ≡ b → b.depth ≡ 0 → IsTrue (may_begin b.view) → u ≡ t → SeatMakes Cpu (Enter c.cpu) Done x y → HasEntered x.view y.view
     → IsShownCpu v → HasLookedUp key y.view v f → IsShownCpu w → HasExited v w → m ≡ n + 1 → IsOurCpu u w.settings u w c m d e ps ns ms
 from_outside_agrees z a t u x y v w c n m d e f ps ns ms key b our at outside unended same made entered looked_shown looked exited_shown exited one_more =
     let shallow : d ≡ 0 = ap (λ (o : OnCpu). o.depth) at ∙ outside in

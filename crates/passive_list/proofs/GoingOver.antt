@@ -10,7 +10,7 @@ use Rattle.std.proofs.lemmas.Bool.{cases_lt, and_parts}
 use Rattle.std.proofs.lemmas.Bool.Decides.{Decides-eqb}
 use Rattle.std.specs.List.{AllPairs, Contains, list_any}
 use mathlib.Core.List.{IsPrefix}
-use Rattle.passive_list.specs.Types.{Entry, Kind, Iface, Name, Change, MOST_SLOTS, AtNext, AtNumber, Search, CpuView}
+use Rattle.passive_list.specs.Types.{Entry, Kind, Driver, Iface, Name, Change, MOST_SLOTS, AtNext, AtNumber, Search, CpuView}
 use Rattle.registry_values.specs.Names.{are_key_words}
 use Rattle.registry_values.specs.Common.{are_words_of, kind_word}
 use Rattle.protocol.specs.Common.{StandsOn}
@@ -43,6 +43,13 @@ compared x y1 y2 y3 y4 from t n k h l had1 had2 had3 had4 at tells =
     let v = passed x y1 y2 y3 y4 nobody from t n k h l had1 had2 had3 had4 at in
     let named : are_key_words h l ≡ true = sym (λ i. are_key_words (v.high i) (v.low i)) ∙ tells.named t v.entry v.stands in
     subst (λ (b : Bool). HasPassed x nobody from t n k h l (after_visit t n b) y4) (unnamed k h l named) v
+
+-- one word is of one kind
+pub one_kind : (c d : Kind) → kind_word c ≡ kind_word d → c ≡ d
+one_kind Iface Iface is = refl
+one_kind Iface Driver is = absurd (omega (arith, is))
+one_kind Driver Iface is = absurd (omega (arith, is))
+one_kind Driver Driver is = refl
 
 -- and so was the value
 pub gone_by : (x y z : CpuView) (from t n k h l value : ℕ) (kind : Kind) (name : Name) → HasPassed x nobody from t n k h l (AtNext t) y → IsValueThere y t value → z ≡ y

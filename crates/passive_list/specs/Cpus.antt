@@ -4,10 +4,10 @@ use Rattle.std.specs.List.{Contains}
 use Rattle.std.specs.Result.{result_err}
 use Rattle.atomic_table.specs.Seated.{TableId}
 use mathlib.Core.List.{IsPrefix}
-use Rattle.passive_list.specs.Types.{Entry, Change, Driver, Settings, MOST_DEPTH, CpuView, LogItem, Refusal, Enter, Exit, Done, Tell, Cpu, Teller}
+use Rattle.passive_list.specs.Types.{Entry, Change, Driver, Settings, MOST_DEPTH, Row, CpuView, LogItem, Refusal, Enter, Exit, Done, Tell, Cpu, Teller}
 use Rattle.registry_values.specs.Common.{are_fit, bias, slot_at, enter_answer, Answers}
 use Rattle.protocol.specs.Common.{IsAttached, IsIn, greatest_limit}
-use Rattle.cpu_words.specs.Common.{Named, number_at, references_to, depth_of, SectionMayHold, IsShownCpu, IsIdle, did, HasEntered, HasExited, HasWholePass, heard_from, IsShownAfter, teller_of, with_note}
+use Rattle.cpu_words.specs.Common.{IsRowOf, Named, number_at, references_to, depth_of, SectionMayHold, IsShownCpu, IsIdle, did, HasEntered, HasExited, HasWholePass, heard_from, IsShownAfter, teller_of, with_note}
 use Rattle.passive_list.specs.declared.place.Found.{Found}
 use Rattle.passive_list.specs.declared.place.NumberedCount.{NumberedCount}
 use Rattle.passive_list.specs.Memories.{Memory, Remembers, no_memory}
@@ -84,13 +84,14 @@ pub record HoldsFound (x : CpuView) : Type 0 where
   pub held : (e : Entry) → x.found ≡ Some e → SectionMayHold is_shown.g.history e x
   pub slot : (e : Entry) → x.found ≡ Some e → IsIn e (slot_at is_shown.g.slots e.slot)
 
--- the fields of a CPU of D's table: its seat's table and view, its number, ended sections and depth, the last found entry, and its places; some state shows the view
-pub record IsOurCpu (z : TableId) (a : Settings) (t : TableId) (x : CpuView) (c ended deep : ℕ) (last : Found) (references nets : List NumberedCount) (kept : Memory) : Type 0 where
+-- the fields of a CPU of D's table: its seat's table and view, its row, ended sections and depth, the last found entry, and its places; some state shows the view
+pub record IsOurCpu (z : TableId) (a : Settings) (t : TableId) (x : CpuView) (r : Row) (ended deep : ℕ) (last : Found) (references nets : List NumberedCount) (kept : Memory) : Type 0 where
   pub table : t ≡ z
   pub settings : x.settings ≡ a
   pub fit : IsTrue (are_fit a)
-  pub id : x.id ≡ c
-  pub few : c < a.cpus
+  pub id : x.id ≡ r.cpu
+  pub few : r.cpu < a.cpus
+  pub row : IsRowOf a.slots r
   pub section : SectionAgrees a x ended
   pub idle : IsIdle x
   pub depth : DepthAgrees x.begin deep

@@ -27,6 +27,7 @@ pub use Rattle.protocol.specs.declared.state.RecordWords.{RecordWords}
 pub use Rattle.protocol.specs.declared.state.Search.{Search}
 pub use Rattle.protocol.specs.declared.state.SearchPlace.{SearchPlace}
 pub use Rattle.protocol.specs.declared.state.SearchPlace.TheVariants.{AtHigh, AtKind, AtLow, AtNext, AtNumber, AtValue}
+pub use Rattle.cpu_words.specs.declared.layout.Row.{Row}
 pub use Rattle.cpu_words.specs.declared.view.CpuView.{CpuView}
 pub use Rattle.cpu_words.specs.declared.view.KeeperView.{KeeperView}
 pub use Rattle.cpu_words.specs.declared.view.LogItem.{LogItem}

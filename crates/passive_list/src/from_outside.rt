@@ -2,13 +2,13 @@
 
 ghost use Rattle.std.specs.Prelude.{◌≡◌, ◌<◌, ◌+◌, ◌^◌, IfSome, IsTrue};
 ghost use Rattle.passive_list.specs.Types.{Exit, Done, Cpu};
-ghost use Rattle.cpu_words.specs.Common.{AreWordsOf, key_with, SeatMakes, MayExit, HasExited};
+ghost use Rattle.cpu_words.specs.Common.{AreWordsOf, IsRowOf, key_with, SeatMakes, MayExit, HasExited};
 ghost use Rattle.passive_list.specs.Lookups.{HasFoundFromOutside, entry_seen};
 ghost use Rattle.passive_list.specs.Cpus.{may_begin};
 
 use crate::lookup::{Seen, look_up};
 use crate::plain_cpu::PlainCpu;
-use cpu_words::{CpuSeat, Words, steps};
+use cpu_words::{CpuSeat, Row, Words, steps};
 use registry_values::{Kind, MOST_SLOTS, Name};
 
 /// Looks an entry up in a read section of its own (pserialize(9)), and returns its words, or `None` if none was found: an enter, a find and
@@ -24,25 +24,26 @@ pub fn find_from_outside(words: &Words, cpu: &mut PlainCpu, kind: Kind, name: Na
     ensures slot { IfSome result (λ seen. (seen.slot < MOST_SLOTS) × (seen.slot < cpu.old.words.settings.slots)) }
     ensures words { cpu.new.words ≡ cpu.old.words }
 {
-    steps::enter(words, &mut cpu.seat, cpu.id);
-    let Some(seen) = look_up(words, &mut cpu.seat, cpu.id, kind, name) else {
-        exit_counted(words, &mut cpu.seat, cpu.id, &mut cpu.ended);
+    steps::enter(words, &mut cpu.seat, cpu.row);
+    let Some(seen) = look_up(words, &mut cpu.seat, cpu.row.cpu, kind, name) else {
+        exit_counted(words, &mut cpu.seat, cpu.row, &mut cpu.ended);
         return None;
     };
-    exit_counted(words, &mut cpu.seat, cpu.id, &mut cpu.ended);
+    exit_counted(words, &mut cpu.seat, cpu.row, &mut cpu.ended);
     Some(seen)
 }
 
 /// Ends the section by the CPU's seat, and counts it as ended.
-fn exit_counted(words: &Words, seat: &mut CpuSeat, cpu: u8, ended: &mut u64)
+fn exit_counted(words: &Words, seat: &mut CpuSeat, row: Row, ended: &mut u64)
     requires table { seat.old.table ≡ words.now.table }
-    requires cpu { (cpu < words.now.settings.cpus) × (seat.old.view.id ≡ cpu) }
+    requires cpu { (row.cpu < words.now.settings.cpus) × (seat.old.view.id ≡ row.cpu) }
+    requires row { IsRowOf words.now.settings.slots row }
     requires may { MayExit seat.old.view }
     requires room { ended.old < 2 ^ 63 }
-    ensures step { SeatMakes Cpu (Exit cpu) Done seat.old seat.new }
+    ensures step { SeatMakes Cpu (Exit row.cpu) Done seat.old seat.new }
     ensures change { HasExited seat.old.view seat.new.view }
     ensures count { ended.new ≡ ended.old + 1 }
 {
-    steps::exit(words, seat, cpu);
+    steps::exit(words, seat, row);
     *ended += 1;
 }

@@ -56,7 +56,7 @@ pub fn find_seen(words: &Words, cpu: &mut PlainCpu, kind: Kind, name: Name) -> O
     ensures slot { IfSome result (λ seen. (seen.slot < MOST_SLOTS) × (seen.slot < cpu.old.words.settings.slots)) }
     ensures words { cpu.new.words ≡ cpu.old.words }
 {
-    let seen = look_up(words, &mut cpu.seat, cpu.id, kind, name);
+    let seen = look_up(words, &mut cpu.seat, cpu.row.cpu, kind, name);
     keep(&mut cpu.found, seen, kind, name);
     seen
 }

@@ -55,7 +55,7 @@ pub fn tell_on(words: &Words, cpu: &mut PlainCpu) -> NoteSeat
     ensures log { cpu.new.cpu ≡ cpu_after_tell cpu.old.cpu }
     ensures words { cpu.new.words ≡ cpu.old.words }
 {
-    steps::tell(words, &mut cpu.seat, cpu.id)
+    steps::tell(words, &mut cpu.seat, cpu.row.cpu)
 }
 
 /// Hears a note: from here on this CPU has seen what the note tells, and every lookup is at least as new. Its pass grows, and has what the
@@ -82,7 +82,7 @@ pub fn hear_on(words: &Words, cpu: &mut PlainCpu, note: NoteSeat)
     ensures log { cpu.new.cpu.log ≡ cpu.old.cpu.log ++ has_heard cpu.old.cpu note.teller }
     ensures words { cpu.new.words ≡ cpu.old.words }
 {
-    steps::hear(words, &mut cpu.seat, cpu.id, note);
+    steps::hear(words, &mut cpu.seat, cpu.row.cpu, note);
 }
 
 /// The keeper tells its history and its whole log, this event with it, as a note. It changes nothing but the log.

@@ -8,7 +8,7 @@ ghost use Rattle.passive_list.specs.Memories.{no_memory};
 
 use crate::memory::Memory;
 use crate::place::{Found, NumberedCount};
-use cpu_words::CpuSeat;
+use cpu_words::{CpuSeat, Row};
 use std::alloc::{AllocError, Global};
 use std::marker::Model;
 
@@ -16,20 +16,21 @@ use std::marker::Model;
 /// is the number of the slots that it is for.
 #[derive(Drop)]
 pub struct CpuRows {
+    slots: u8,
     passive: Vec<NumberedCount>,
     net: Vec<NumberedCount>,
     memory: Memory,
 }
 
 impl Model for CpuRows {
-    ghost use Rattle.std.specs.Prelude.{ℕ, length};
+    ghost use Rattle.std.specs.Prelude.{ℕ};
     ghost use Rattle.passive_list.specs.Cpus.{AreNewRows};
 
     ghost Value = { ℕ };
 
-    ghost view = { λ r. length r.passive.items };
+    ghost view = { λ r. r.slots };
 
-    ghost invariant = { λ r. AreNewRows (length r.passive.items) r.passive.items r.net.items r.memory };
+    ghost invariant = { λ r. AreNewRows r.slots r.passive.items r.net.items r.memory };
 }
 
 impl CpuRows {
@@ -39,6 +40,7 @@ impl CpuRows {
         ensures { IfOk result (λ rows. rows ≡ slots) }
     {
         Ok(CpuRows {
+            slots,
             passive: vec![in alloc; NumberedCount::NONE; slots as usize]?,
             net: vec![in alloc; NumberedCount::NONE; slots as usize]?,
             memory: Memory::new(alloc, slots)?,
@@ -51,12 +53,12 @@ impl CpuRows {
 #[derive(Drop)]
 pub struct PlainCpu {
     pub seat: CpuSeat,
-    /// The CPU's number, from 0.
-    pub id: u8,
-    /// The sections that it has ended: its section word is twice that, and one more inside.
-    pub ended: u64,
+    /// The CPU's number, and where its words are.
+    pub row: Row,
     /// 0 outside, else how many enters are open.
     pub depth: u8,
+    /// The sections that it has ended: its section word is twice that, and one more inside.
+    pub ended: u64,
     /// The entry that its last lookup in the open section found.
     pub found: Found,
     /// By slot: its passive references.
@@ -76,7 +78,7 @@ impl Model for PlainCpu {
 
     ghost view = { λ c. record { words = record { table = c.seat.table; settings = c.seat.view.settings }; cpu = record { view = c.seat.view; depth = c.depth; made = 0; memory = c.memory; known_log = c.seat.known_log; log = c.seat.log } } };
 
-    ghost invariant = { λ c. IsOurCpu c.seat.table c.seat.view.settings c.seat.table c.seat.view c.id c.ended c.depth c.found c.passive.items c.net.items c.memory };
+    ghost invariant = { λ c. IsOurCpu c.seat.table c.seat.view.settings c.seat.table c.seat.view c.row c.ended c.depth c.found c.passive.items c.net.items c.memory };
 }
 
 impl PlainCpu {
@@ -90,13 +92,14 @@ impl PlainCpu {
         ensures cpu { result.cpu ≡ record { view = seat.view; depth = 0; made = 0; memory = no_memory seat.view.settings.slots; known_log = seat.known_log; log = seat.log } }
     {
         let CpuRows {
+            slots,
             passive,
             net,
             memory,
         } = rows;
         PlainCpu {
             seat,
-            id,
+            row: Row::of(slots, id),
             ended: 0,
             depth: 0,
             found: Found::NONE,
@@ -114,7 +117,7 @@ impl PlainCpu {
     {
         let PlainCpu {
             seat,
-            id: _,
+            row: _,
             ended: _,
             depth: _,
             found: _,
@@ -130,7 +133,7 @@ impl PlainCpu {
     pub fn id(&self) -> u8
         ensures { result ≡ self.now.cpu.view.id }
     {
-        self.id
+        self.row.cpu
     }
 
     /// How many enters are open: 0 outside, at most `MOST_DEPTH`. `own` is what every CPU keeps of itself: some state shows its view, and there its open

@@ -27,7 +27,7 @@ pub fn recall_head_on(words: &Words, cpu: &mut PlainCpu) -> u64
     ensures few { (result ≤ MOST_SLOTS) × (result ≤ cpu.old.words.settings.slots) }
     ensures words { cpu.new.words ≡ cpu.old.words }
 {
-    steps::recall_head(words, &mut cpu.seat, cpu.id)
+    steps::recall_head(words, &mut cpu.seat, cpu.row.cpu)
 }
 
 /// Whether the entry `seen`, which this CPU has seen, is live: by one load of its slot's live word. If so, it is the last found entry, as after
@@ -42,7 +42,13 @@ pub fn refind_on(words: &Words, cpu: &mut PlainCpu, kind: Kind, name: Name, seen
     ensures found { HasRefoundOn (key_with kind name) seen cpu.old.cpu cpu.new.cpu result }
     ensures words { cpu.new.words ≡ cpu.old.words }
 {
-    let live = steps::refind(words, &mut cpu.seat, cpu.id, seen.slot as u8, seen.number);
+    let live = steps::refind(
+        words,
+        &mut cpu.seat,
+        cpu.row.cpu,
+        seen.slot as u8,
+        seen.number,
+    );
     let found = live == seen.number;
     if found {
         keep(&mut cpu.found, Some(seen), kind, name);
@@ -87,7 +93,7 @@ pub fn recall_remembered(words: &Words, cpu: &mut PlainCpu, kind: Kind, name: Na
     ensures words { cpu.new.words ≡ cpu.old.words }
 {
     let seen = remembered(cpu, kind, name)?;
-    let live = steps::recall(words, &mut cpu.seat, cpu.id, seen.slot as u8);
+    let live = steps::recall(words, &mut cpu.seat, cpu.row.cpu, seen.slot as u8);
     let is_live = live == seen.number;
     if is_live {
         return Some(seen);
@@ -147,7 +153,7 @@ pub fn recall_word(words: &Words, cpu: &mut PlainCpu, slot: u8) -> u64
     ensures recalled { HasRecalledOn slot result cpu.old.cpu cpu.new.cpu true }
     ensures words { cpu.new.words ≡ cpu.old.words }
 {
-    steps::recall(words, &mut cpu.seat, cpu.id, slot)
+    steps::recall(words, &mut cpu.seat, cpu.row.cpu, slot)
 }
 
 /// Looks an entry up in a section, and remembers the answer: a miss by the number of the newest live entry before it, if that isn't 0.

@@ -27,7 +27,7 @@ pub fn enter_on(words: &Words, cpu: &mut PlainCpu) -> Result<(), Refusal>
 {
     let outside = cpu.depth == 0;
     if outside {
-        enter_answer(cpu.depth, true, may_begin(words, cpu))?;
+        enter_answer(0, true, may_begin(words, cpu))?;
         begin(words, cpu);
         return Ok(());
     }
@@ -61,7 +61,7 @@ fn begin(words: &Words, cpu: &mut PlainCpu)
     ensures entered { HasEnteredOn cpu.old.cpu cpu.new.cpu }
     ensures words { cpu.new.words ≡ cpu.old.words }
 {
-    steps::enter(words, &mut cpu.seat, cpu.id);
+    steps::enter(words, &mut cpu.seat, cpu.row);
     cpu.depth = 1;
 }
 
@@ -95,7 +95,7 @@ fn end(words: &Words, cpu: &mut PlainCpu)
     ensures exited { HasExitedOn cpu.old.cpu cpu.new.cpu }
     ensures words { cpu.new.words ≡ cpu.old.words }
 {
-    steps::exit(words, &mut cpu.seat, cpu.id);
+    steps::exit(words, &mut cpu.seat, cpu.row);
     cpu.found.number = 0;
     cpu.depth = 0;
     cpu.ended += 1;

@@ -6,6 +6,7 @@
 ghost use Rattle.std.specs.Prelude.{◌≡◌, ◌≢◌, ◌<◌, ◌≤◌, List, None, take, drop, set, length};
 ghost use Rattle.passive_list.specs.Types.{Entry, Kind};
 ghost use Rattle.registry_values.specs.Common.{kind_word};
+ghost use Rattle.protocol.specs.Common.{words_of};
 ghost use Rattle.cpu_words.specs.Common.{AreWordsOf, IsShownCpu, MaySeek};
 ghost use Rattle.passive_list.specs.Lookups.{IsWalkLoad, GoesOnBySoMany, HasGoneOverBy};
 ghost use Rattle.passive_list.specs.Walks.{MayGoBy, HasGoneByOne, HasGoneOver, HasWalked, IsWritten};
@@ -13,9 +14,11 @@ ghost use Rattle.passive_list.specs.Walks.{MayGoBy, HasGoneByOne, HasGoneOver, H
 use crate::cpu::Cpu;
 use crate::plain_cpu::PlainCpu;
 use cpu_words::{CpuSeat, Domain, Words, steps};
-use registry_values::{Entry, Kind, MOST_SLOTS, Name, Record};
+use protocol::RecordWords;
+use registry_values::{Entry, Kind, MOST_SLOTS, Name};
 
-/// How a walk writes an entry into a place of its row.
+/// How a walk writes an entry into a place of its row: by its slot, and by the words that it loads
+/// there.
 pub trait WritesEntry {
     /// What a place has.
     type Place;
@@ -23,8 +26,9 @@ pub trait WritesEntry {
     /// What is written for an entry.
     ghost written: { Entry → Self.Place };
 
-    fn write(place: &mut Self::Place, entry: Entry)
-        ensures { place.new ≡ written entry };
+    fn write(place: &mut Self::Place, slot: u64, entry: RecordWords)
+        requires slot { slot < MOST_SLOTS }
+        ensures { (e : Entry) → e.slot ≡ slot → entry ≡ words_of e → place.new ≡ written e };
 }
 
 /// Writes each entry as it is.
@@ -37,10 +41,12 @@ impl WritesEntry for AsItIs {
 
     /// Field by field. An entry that is copied whole takes the bytes between its fields along, which takes longer than to load it.
     #[inline(always)]
-    fn write(place: &mut Entry, entry: Entry) {
+    fn write(place: &mut Entry, slot: u64, entry: RecordWords) {
         place.number = entry.number;
-        place.slot = entry.slot;
-        place.rec = entry.rec;
+        place.slot = slot as u8;
+        place.rec.kind = kind_of(entry.kind);
+        place.rec.name = Name::of_words(entry.high, entry.low);
+        place.rec.value = entry.value;
     }
 }
 
@@ -75,7 +81,7 @@ pub fn walk_on<W: WritesEntry>(words: &Words, cpu: &mut PlainCpu, row: &mut [W::
     ensures walked { (met : List Entry) × (result ≡ length met) × HasWalked cpu.old.cpu cpu.new.cpu met × IsWritten W.written met row.old row.new }
     ensures words { cpu.new.words ≡ cpu.old.words }
 {
-    let count = go_over::<W>(words, &mut cpu.seat, cpu.id, row);
+    let count = go_over::<W>(words, &mut cpu.seat, cpu.row.cpu, row);
     cpu.found.number = 0;
     count
 }
@@ -102,32 +108,33 @@ fn go_over<W: WritesEntry>(
     while link != 0 {
         let slot = (link - 1) as usize;
         let entry = go_by(words, seat, cpu, slot);
-        write_at::<W>(row, count, entry);
+        write_at::<W>(row, count, link - 1, entry);
         count += 1;
         link = steps::load_link(words, seat, cpu, link);
     }
     count
 }
 
-/// Writes an entry into its place, if the row goes so far.
+/// Writes the entry of that slot, which has these words, into its place, if the row goes so far.
 #[inline(always)]
-fn write_at<W: WritesEntry>(row: &mut [W::Place], place: usize, entry: Entry)
-    ensures { row.new ≡ set row.old place (W.written entry) }
+fn write_at<W: WritesEntry>(row: &mut [W::Place], place: usize, slot: u64, entry: RecordWords)
+    requires slot { slot < MOST_SLOTS }
+    ensures { (e : Entry) → e.slot ≡ slot → entry ≡ words_of e → row.new ≡ set row.old place (W.written e) }
 {
     if place < row.len() {
-        W::write(&mut row[place], entry);
+        W::write(&mut row[place], slot, entry);
     }
 }
 
-/// Loads all words of the entry in a slot.
+/// Loads all words of the entry in a slot, and hands them on as they are.
 #[tactic(auto, using(crate::proofs::Walking::may_load, crate::proofs::Walking::four_loaded, crate::proofs::Walking::five_loaded))]
-fn go_by(words: &Words, seat: &mut CpuSeat, cpu: u8, slot: usize) -> Entry
+fn go_by(words: &Words, seat: &mut CpuSeat, cpu: u8, slot: usize) -> RecordWords
     requires table { seat.old.table ≡ words.now.table }
     requires cpu { (cpu < words.now.settings.cpus) × (seat.old.view.id ≡ cpu) }
     requires slot { (slot < MOST_SLOTS) × (slot < words.now.settings.slots) }
     requires may { MayGoBy seat.old.view slot }
     ensures table { seat.new.table ≡ seat.old.table }
-    ensures change { HasGoneByOne seat.old.view slot result seat.new.view }
+    ensures change { (e : Entry) × (e.slot ≡ slot) × (result ≡ words_of e) × HasGoneByOne seat.old.view slot e seat.new.view }
     ensures known_log { seat.new.known_log ≡ seat.old.known_log }
     ensures log { GoesOnBySoMany (IsWalkLoad cpu) 5 seat.old.log seat.new.log }
 {
@@ -136,14 +143,12 @@ fn go_by(words: &Words, seat: &mut CpuSeat, cpu: u8, slot: usize) -> Entry
     let high = steps::load_searched(words, seat, cpu, slot, 2);
     let low = steps::load_searched(words, seat, cpu, slot, 3);
     let value = steps::load_compared(words, seat, cpu, slot);
-    Entry {
+    RecordWords {
         number,
-        slot: slot as u8,
-        rec: Record {
-            kind: kind_of(kind),
-            name: Name::of_words(high, low),
-            value,
-        },
+        kind,
+        high,
+        low,
+        value,
     }
 }
 

@@ -7,7 +7,7 @@ use Rattle.std.specs.Prelude.{position, Result, Ok, Err, IfErr}
 use Rattle.std.specs.List.{Contains}
 use Rattle.std.proofs.lemmas.List.{length-set}
 use Rattle.atomic_table.specs.Seated.{TableId}
-use Rattle.passive_list.specs.Types.{Entry, Settings, CpuView, Refusal, NothingFound, LoadRecord, Passive, Word}
+use Rattle.passive_list.specs.Types.{Row, Entry, Settings, CpuView, Refusal, NothingFound, LoadRecord, Passive, Word}
 use Rattle.registry_values.specs.Common.{Answers}
 use Rattle.protocol.specs.Common.{IsAttached, word, words_of}
 use Rattle.protocol.proofs.History.{one_entry, attached_within}
@@ -174,14 +174,14 @@ less_passive x ps e t n agree at among = record {
         (cases u)
 
 -- a CPU with other references, and places that agree with them
-with_references : (z : TableId) (a : Settings) (t u : TableId) (x : CpuView) (c w d : ℕ) (o : Found) (ps qs ns : List NumberedCount) (ms : Memory) (references : List Entry)
+with_references : (z : TableId) (a : Settings) (t u : TableId) (x : CpuView) (c : Row) (w d : ℕ) (o : Found) (ps qs ns : List NumberedCount) (ms : Memory) (references : List Entry)
     → IsOurCpu z a t x c w d o ps ns ms → u ≡ t → IsShownCpu (record x { references = references }) → PassiveAgree (record x { references = references }) qs
     → IsOurCpu z a u (record x { references = references }) c w d o qs ns ms
 with_references z a t u x c w d o ps qs ns ms references our same is_shown agree =
     assumption (same ∙ our.table, net_same x (record x { references = references }) ns refl refl refl refl our.net, our)
 
 -- a reference was added
-pub added_agrees : (z : TableId) (a : Settings) (t u : TableId) (x y : CpuView) (c w d : ℕ) (o : Found) (ps ns : List NumberedCount) (ms : Memory) (s n m : ℕ)
+pub added_agrees : (z : TableId) (a : Settings) (t u : TableId) (x y : CpuView) (c : Row) (w d : ℕ) (o : Found) (ps ns : List NumberedCount) (ms : Memory) (s n m : ℕ)
     → IsOurCpu z a t x c w d o ps ns ms → u ≡ t → IsShownCpu y → HasAdded x s n y → s < x.settings.slots → IsAloneAt x s n → m ≡ references_to n x.references
     → IsOurCpu z a u y c w d o (set ps s (record { number = n; count = m + 1 })) ns ms
 added_agrees z a t u x y c w d o ps ns ms s n m our same is_shown had few alone is = subst (λ (v : CpuView). IsOurCpu z a u v c w d o (set ps s (record { number = n; count = m + 1 })) ns ms) (sym had.3)
@@ -189,7 +189,7 @@ added_agrees z a t u x y c w d o ps ns ms s n m our same is_shown had few alone 
     (added_passive x ps had.0 s n m our.passive had.1 had.2 few alone is))
 
 -- a reference was taken away
-pub less_agrees : (z : TableId) (a : Settings) (t u : TableId) (x y : CpuView) (c w d : ℕ) (o : Found) (ps ns : List NumberedCount) (ms : Memory) (e : Entry) (s n : ℕ)
+pub less_agrees : (z : TableId) (a : Settings) (t u : TableId) (x y : CpuView) (c : Row) (w d : ℕ) (o : Found) (ps ns : List NumberedCount) (ms : Memory) (e : Entry) (s n : ℕ)
     → IsOurCpu z a t x c w d o ps ns ms → u ≡ t → IsShownCpu y → IsAt e s n → Contains x.references e → HasSubtracted x n y
     → IsOurCpu z a u y c w d o (set ps s (record { number = (place_at ps s).number; count = (place_at ps s).count - 1 })) ns ms
 less_agrees z a t u x y c w d o ps ns ms e s n our same is_shown at among had =

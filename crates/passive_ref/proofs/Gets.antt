@@ -3,7 +3,7 @@ use Rattle.std.proofs.Common.{◌≡◌, ℕ, Option, Some, None, inl, inr, ap, 
 use Rattle.std.proofs.lemmas.Bool.{cases_eq, eq-eqb, ne_eqb}
 use mathlib.Core.List.{IsPrefix}
 use Rattle.atomic_table.specs.Seated.{TableId}
-use Rattle.passive_list.specs.Types.{Entry, Key, Settings, Try, Confirm, TakeBack, Recall, Word, CpuView, LogItem}
+use Rattle.passive_list.specs.Types.{Entry, Key, Settings, Try, Confirm, TakeBack, Recall, Word, Row, CpuView, LogItem}
 use Rattle.protocol.specs.Common.{IsAttached, IsLiveAt, IsLookup, entry_with}
 use Rattle.protocol.proofs.History.{one_entry}
 use Rattle.cpu_words.specs.Common.{Named, references_to, with_hand, did, IsAt, IsIdle, IsShownCpu, HasSeenMore, HasTried, HasConfirmed, HasTakenBack, MayEndTry, MayTakeBack, MayTry, event_by}
@@ -101,7 +101,7 @@ vain x y z w t n may tried late back =
     record { longer = subst (IsPrefix x.pass) pass (subst (λ (v : CpuView). IsPrefix v.pass z.pass) first late.0); is = is ∙ ap (λ p. record x { pass = p }) pass }
 
 -- the data agree with the view then
-pub vain_agrees : (z : TableId) (a : Settings) (t u : TableId) (x y : CpuView) (c w d : ℕ) (e : Found) (ps ns : List NumberedCount) (ms : Memory) → IsOurCpu z a t x c w d e ps ns ms → IsShownCpu y → u ≡ t → IsVain x y
+pub vain_agrees : (z : TableId) (a : Settings) (t u : TableId) (x y : CpuView) (c : Row) (w d : ℕ) (e : Found) (ps ns : List NumberedCount) (ms : Memory) → IsOurCpu z a t x c w d e ps ns ms → IsShownCpu y → u ≡ t → IsVain x y
     → IsOurCpu u y.settings u y c w d e ps ns ms
 vain_agrees z a t u x y c w d e ps ns ms our is_shown same v =
     own_agrees z a u y c w d e ps ns ms (noted_agrees z a t u x y c w d e ps ns ms x.noted_pass our is_shown same v.longer v.is)
@@ -132,7 +132,7 @@ counted_here x ps e t n agree at attached =
     (cases_eq p.number n)
 
 -- the data agree with the view
-pub taken_agrees : (z : TableId) (a : Settings) (t u : TableId) (x y : CpuView) (c w d : ℕ) (o : Found) (ps ns : List NumberedCount) (ms : Memory) (s n m : ℕ)
+pub taken_agrees : (z : TableId) (a : Settings) (t u : TableId) (x y : CpuView) (c : Row) (w d : ℕ) (o : Found) (ps ns : List NumberedCount) (ms : Memory) (s n m : ℕ)
     → IsOurCpu z a t x c w d o ps ns ms → IsShownCpu y → u ≡ t → s < x.settings.slots → IsTakenAs x y s n → m ≡ counted_for n (place_at ps s)
     → IsOurCpu u y.settings u y c w d o (set ps s (record { number = n; count = m + 1 })) ns ms
 taken_agrees z a t u x y c w d o ps ns ms s n m our is_shown same few taken counted =

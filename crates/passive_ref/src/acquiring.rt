@@ -237,13 +237,13 @@ fn add(words: &Words, cpu: &mut PlainCpu, slot: u8, number: u64) -> Result<Psref
     if let Some(refusal) = why_full(count, words.settings().passive_limit) {
         return Err(refusal);
     }
-    steps::passive_add(words, &mut cpu.seat, cpu.id, slot, number);
+    steps::passive_add(words, &mut cpu.seat, cpu.row, slot, number);
     cpu.passive[slot as usize] = NumberedCount {
         number,
         count: count + 1,
     };
     Ok(Psref {
-        cpu: cpu.id,
+        cpu: cpu.row.cpu,
         hint: slot,
         number,
     })
@@ -257,6 +257,6 @@ fn subtract(words: &Words, cpu: &mut PlainCpu, slot: u8, number: u64)
     ensures less { HasOneLess number cpu.old.cpu cpu.new.cpu }
     ensures words { cpu.new.words ≡ cpu.old.words }
 {
-    steps::passive_sub(words, &mut cpu.seat, cpu.id, slot, number);
+    steps::passive_sub(words, &mut cpu.seat, cpu.row, slot, number);
     cpu.passive[slot as usize].count -= 1;
 }

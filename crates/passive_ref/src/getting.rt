@@ -4,12 +4,12 @@
 
 ghost use Rattle.std.specs.Prelude.{◌≡◌, ◌+◌, ◌^◌, ◌<◌, IfSome, Some, length};
 ghost use Rattle.protocol.specs.Common.{IsLookup, entry_with};
-ghost use Rattle.cpu_words.specs.Common.{AreWordsOf, IsShownCpu, MayTry, key_with};
+ghost use Rattle.cpu_words.specs.Common.{AreWordsOf, IsRowOf, IsShownCpu, MayTry, key_with};
 ghost use Rattle.passive_list.specs.Common.{HasSeen as HasSeenOf};
 ghost use Rattle.passive_ref.specs.{counted_for, HasGotByMemory, HasGotOn, HasSeen, HasTriedOnSeat};
 
 use crate::psref::Psref;
-use cpu_words::{CpuSeat, Words, steps};
+use cpu_words::{CpuSeat, Row, Words, steps};
 use passive_list::{NumberedCount, PlainCpu, Seen, remembered};
 use registry_values::{Kind, MOST_SLOTS, Name};
 
@@ -32,11 +32,11 @@ pub fn get_on(words: &Words, cpu: &mut PlainCpu, slot: u8, number: u64) -> Optio
     if cpu.passive[slot as usize].count >= words.settings().passive_limit {
         return None;
     }
-    let done = try_on_seat(words, &mut cpu.seat, cpu.id, slot, number);
+    let done = try_on_seat(words, &mut cpu.seat, cpu.row, slot, number);
     if done {
         count_one(&mut cpu.passive[slot as usize], number);
         return Some(Psref {
-            cpu: cpu.id,
+            cpu: cpu.row.cpu,
             hint: slot,
             number,
         });
@@ -75,16 +75,17 @@ fn get_seen(words: &Words, cpu: &mut PlainCpu, kind: Kind, name: Name, seen: See
     ensures words { cpu.new.words ≡ cpu.old.words }
 {
     // The contract alone speaks of the key. Reading the number opens what the CPU says of itself: its table's settings are its view's.
-    let _key = (kind, name, cpu.id);
+    let _key = (kind, name, cpu.row.cpu);
     get_on(words, cpu, seen.slot as u8, seen.number)
 }
 
 /// Counts up, loads the slot's live word, and counts down again if it isn't `number`.
 #[inline(always)]
 #[tactic(auto, using(cpu_words::proofs::seats::Seating::step_is_shown, crate::proofs::Gets::late_id, crate::proofs::Gets::may_end, crate::proofs::Gets::may_take_back, crate::proofs::Gets::tried_id))]
-fn try_on_seat(words: &Words, seat: &mut CpuSeat, cpu: u8, slot: u8, number: u64) -> bool
+fn try_on_seat(words: &Words, seat: &mut CpuSeat, row: Row, slot: u8, number: u64) -> bool
     requires table { seat.old.table ≡ words.now.table }
-    requires cpu { (cpu < words.now.settings.cpus) × (seat.old.view.id ≡ cpu) }
+    requires cpu { (row.cpu < words.now.settings.cpus) × (seat.old.view.id ≡ row.cpu) }
+    requires row { IsRowOf words.now.settings.slots row }
     requires slot { slot < words.now.settings.slots }
     requires may { MayTry seat.old.view slot number }
     ensures table { seat.new.table ≡ seat.old.table }
@@ -92,12 +93,12 @@ fn try_on_seat(words: &Words, seat: &mut CpuSeat, cpu: u8, slot: u8, number: u64
     ensures is_shown { IsShownCpu seat.new.view }
     ensures known_log { seat.new.known_log ≡ seat.old.known_log }
 {
-    steps::begin_try(words, seat, cpu, slot, number);
-    let live = steps::end_try(words, seat, cpu, slot, number);
+    steps::begin_try(words, seat, row, slot, number);
+    let live = steps::end_try(words, seat, row.cpu, slot, number);
     if live == number {
         return true;
     }
-    steps::take_back(words, seat, cpu, slot);
+    steps::take_back(words, seat, row, slot);
     false
 }
 

@@ -33,7 +33,7 @@ pub(crate) fn usable_slot(cpu: &PlainCpu, psref: &Psref) -> Result<u8, Refusal>
     ensures { Answers (why_unusable cpu.now.cpu.view psref.now) (λ t. IsHeldAt cpu.now.cpu.view t psref.now.number) result }
 {
     let held = slot_by(cpu, psref.hint, psref.number);
-    match (why_unusable(psref.cpu == cpu.id, held.is_some()), held) {
+    match (why_unusable(psref.cpu == cpu.row.cpu, held.is_some()), held) {
         (None, Some(slot)) => Ok(slot),
         (Some(refusal), _) => Err(refusal),
         (None, None) => unreachable!(),

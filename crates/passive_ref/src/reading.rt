@@ -71,5 +71,5 @@ fn load_word(words: &Words, cpu: &mut PlainCpu, slot: u8, number: u64, k: u8) ->
     ensures word { IsWordOf cpu.old.cpu.view slot number k result }
     ensures log { cpu.new ≡ record cpu.old { cpu = record cpu.old.cpu { log = cpu.old.cpu.log ++ did (LoadRecord (Passive cpu.old.cpu.view.id number k)) (Word result) } } }
 {
-    steps::load_passive(words, &mut cpu.seat, cpu.id, slot, number, k)
+    steps::load_passive(words, &mut cpu.seat, cpu.row.cpu, slot, number, k)
 }

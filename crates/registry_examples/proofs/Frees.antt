@@ -8,7 +8,7 @@ use Rattle.cpu_words.specs.Common.{did}
 use Rattle.passive_list.specs.Common.{OnCpu, OnKeeper, AnswersEnter, cpu_after_tell}
 use Rattle.local_count.specs.{AnswersAcquireLocal}
 use Rattle.name_registry.specs.Common.{HasEnded, HasAdvanced, HasAdvancedFor, SomeAdvancedFor, TurnsMeeting, DestroysOutside, HasLearned, hears_cpu, keeper_after_hear}
-use Rattle.registry_examples.specs.{Accounts, HasFreed, MakesAtMost, SomeFreed, with_freed, frees_in}
+use Rattle.registry_examples.specs.{Accounts, HasFreed, MakesAtMost, SomeFreed, with_freed, frees_in, answered_by}
 
 with_more : (o : Option ℕ) (n a b : ℕ) → n ≡ a + b → with_freed o n ≡ with_freed o a + b
 with_more None n a b is = is
@@ -96,10 +96,10 @@ pub once_more : (n : ℕ) (a b c : List LogItem) → n ≤ frees_in a → IsPref
 once_more n a b c few grows more = omega (arith, few, frees_grow a b grows, more)
 
 -- the driver besides: by what the close says of any number
-pub freed_besides : (z : Settings) (last : List ℕ) (n : ℕ) (x y o : OnCpu) → Accounts 0 x → MakesAtMost (2 * n + 1) x y → MakesAtMost 1 y o → n ≤ frees_in y.known_log → frees_in y.known_log < frees_in o.known_log
-    → ((k : ℕ) → Accounts (2 * k) o → k ≤ frees_in o.known_log → HasFreed z last k) → HasFreed z last (n + 1)
-freed_besides z last n x y o new loop unload few more closes =
-    closes (n + 1) (subst (λ (k : ℕ). Accounts k o) (omega arith) (unload.more (0 + (2 * n + 1)) (loop.more 0 new))) (omega (arith, few, more))
+pub freed_besides : (z : Settings) (last : List ℕ) (n packets : ℕ) (xs : List OnCpu) (x y o : OnCpu) → Accounts 0 x → MakesAtMost (2 * n + 1) x y → MakesAtMost 1 y o → n ≤ frees_in y.known_log → frees_in y.known_log < frees_in o.known_log
+    → packets ≤ answered_by xs → ((k j : ℕ) → Accounts (2 * k) o → k ≤ frees_in o.known_log → j ≤ answered_by xs → HasFreed z last k j) → HasFreed z last (n + 1) packets
+freed_besides z last n packets xs x y o new loop unload few more searched closes =
+    closes (n + 1) packets (subst (λ (k : ℕ). Accounts k o) (omega arith) (unload.more (0 + (2 * n + 1)) (loop.more 0 new))) (omega (arith, few, more)) searched
 
-pub some_freed : (z : Settings) (last : List ℕ) (n : ℕ) → HasFreed z last n → SomeFreed n
-some_freed z last n is = record { settings = z; last = last; freed = is }
+pub some_freed : (z : Settings) (last : List ℕ) (n packets : ℕ) → HasFreed z last n packets → SomeFreed n
+some_freed z last n packets is = record { settings = z; last = last; packets = packets; freed = is }

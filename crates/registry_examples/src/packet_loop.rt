@@ -8,7 +8,7 @@ ghost use Rattle.std.specs.Thread.{IsSync};
 ghost use Rattle.cpu_words.specs.Common.{IsFreedFrom, index, live_of};
 ghost use Rattle.registry_values.specs.Common.{is_key};
 ghost use Rattle.name_registry.specs.Common.{IsBlankOf, made_by};
-ghost use Rattle.registry_examples.specs.{Accounts, HasFreed, MakesAtMost, MakesNone, frees_in, made_in};
+ghost use Rattle.registry_examples.specs.{Accounts, HasFreed, MakesAtMost, MakesNone, answered_by, answered_in, answers_in, counted_in, frees_in, made_in, total_of};
 
 use crate::failure::Failure;
 use cpu_words::{Domain, LastWords};
@@ -67,12 +67,12 @@ struct Tally([u64; 9]);
 type Carried<D> = Result<(Tally, Cpu<D>), Failure>;
 
 /// Runs the loop on a registry of its own. Returns what it did, and the last words of the registry: they are those of a run in which a slot
-/// was freed as often as the sum says, and the driver's once.
+/// was freed as often as the sum says, and the driver's once, and in which a search was answered for each packet that was counted.
 pub fn run_packet_loop<R: Threads + Wait + Sync>(
     rt: &R,
     alloc: Global,
 ) -> Result<(PacketSum, LastWords), Failure>
-    ensures ran { IfOk result (λ ran. HasFreed ran.1.settings ran.1.words (ran.0.freed + 1)) }
+    ensures ran { IfOk result (λ ran. HasFreed ran.1.settings ran.1.words (ran.0.freed + 1) ran.0.counted) }
 {
     let settings = Settings {
         cpus: CARRIERS + 1,
@@ -94,7 +94,7 @@ fn run_on<D: Domain + Send + Sync, R: Threads + Wait + Sync>(
     blank: Blank,
 ) -> Result<(PacketSum, LastWords), Failure>
     requires table { IsBlankOf blank D.table D.settings D.name D.parts }
-    ensures ran { IfOk result (λ ran. HasFreed ran.1.settings ran.1.words (ran.0.freed + 1)) }
+    ensures ran { IfOk result (λ ran. HasFreed ran.1.settings ran.1.words (ran.0.freed + 1) ran.0.counted) }
 {
     let Ok((registry, mut cpus)) = blank.open::<D>(alloc) else {
         return Err(Failure::Memory(AllocError));
@@ -119,6 +119,7 @@ fn run_bus<D: Domain + Send + Sync, R: Threads + Wait + Sync>(
     ensures made { IfOk result (λ ran. MakesAtMost (2 * ran.0.freed + 1) cpu ran.1) }
     ensures all { IfOk result (λ ran. length ran.2.items ≡ length carriers.items) }
     ensures others { IfOk result (λ ran. made_by ran.2.items ≤ made_by carriers.items) }
+    ensures counted { IfOk result (λ ran. ran.0.counted ≤ answered_by ran.2.items) }
 {
     let bus = Bus::new(registry)?;
     bus.load_driver(rt, &mut cpu)?;
@@ -144,7 +145,8 @@ fn unload_driver<D: Domain, R: Wait>(
 
 /// Ends the registry with all its CPUs, and returns its last words. One list of events of all threads led to them, on any schedule: what each CPU
 /// did is in it. So the live word of the driver's slot isn't the driver's number, and no slot was freed while any CPU held its entry. If the other
-/// CPUs changed nothing, and the CPU knows of a free for each two changes that its calls made, a slot was freed as often as that.
+/// CPUs changed nothing, and the CPU knows of a free for each two changes that its calls made, a slot was freed as often as that. Each search that
+/// was answered by the carriers' logs is in the list.
 fn close<D: Domain>(
     registry: Registry<D>,
     cpu: Cpu<D>,
@@ -156,7 +158,7 @@ fn close<D: Domain>(
     requires slot { driver.0 < D.settings.slots }
     requires gone { IsFreedFrom driver.0 driver.1 cpu.known_log }
     ensures gone { IfOk result (λ last. slice_index last.words (index last.settings (live_of driver.0)) ≢ driver.1) }
-    ensures ran { IfOk result (λ last. (n : ℕ) → Accounts (2 * n) cpu → n ≤ frees_in cpu.known_log → HasFreed last.settings last.words n) }
+    ensures ran { IfOk result (λ last. (n packets : ℕ) → Accounts (2 * n) cpu → n ≤ frees_in cpu.known_log → packets ≤ answered_by carriers.items → HasFreed last.settings last.words n packets) }
 {
     // The contract alone speaks of the driver.
     let _driver = driver;
@@ -178,6 +180,7 @@ fn carry_and_plug<D: Domain + Send + Sync, R: Threads + Wait + Sync>(
     ensures made { IfOk result (λ ran. MakesAtMost (2 * ran.0.freed) cpu ran.1) }
     ensures all { IfOk result (λ ran. length ran.2.items ≡ length carriers.items) }
     ensures others { IfOk result (λ ran. made_by ran.2.items ≤ made_by carriers.items) }
+    ensures counted { IfOk result (λ ran. ran.0.counted ≤ answered_by ran.2.items) }
 {
     let (plugged, carried) = join(
         rt,
@@ -186,6 +189,7 @@ fn carry_and_plug<D: Domain + Send + Sync, R: Threads + Wait + Sync>(
             requires { IsSync R.row }
             ensures all { IfOk result (λ back. length back.items ≡ length carriers.items) }
             ensures made { IfOk result (λ back. made_in back.items ≤ made_by carriers.items) }
+            ensures counted { IfOk result (λ back. counted_in back.items ≤ answered_in back.items) }
         { carry_on_all(rt, bus, carriers) },
     );
     let (freed, cpu) = plugged?;
@@ -206,12 +210,13 @@ fn carry_on_all<D: Domain + Send + Sync, R: Threads + Sync>(
 ) -> Result<Vec<Carried<D>>, AllocError>
     ensures all { IfOk result (λ back. length back.items ≡ length carriers.items) }
     ensures made { IfOk result (λ back. made_in back.items ≤ made_by carriers.items) }
+    ensures counted { IfOk result (λ back. counted_in back.items ≤ answered_in back.items) }
 {
     map_vec(
         rt,
         carriers,
         &|carrier: Cpu<D>| -> Carried<D>
-            ensures { IfOk result (λ back. back.1.made ≡ carrier.made) }
+            ensures { IfOk result (λ back. (back.1.made ≡ carrier.made) × (total_of back.0 ≤ answers_in back.1.log)) }
         { bus.carry_all(carrier) },
     )
 }
@@ -224,6 +229,8 @@ fn all_counted<D: Domain>(
 ) -> Result<(u64, Vec<Cpu<D>>), Failure>
     ensures all { IfOk result (λ all. length all.1.items ≡ length carried.items) }
     ensures made { IfOk result (λ all. made_by all.1.items ≡ made_in carried.items) }
+    ensures counted { IfOk result (λ all. all.0 ≤ counted_in carried.items) }
+    ensures answered { IfOk result (λ all. answered_by all.1.items ≡ answered_in carried.items) }
 {
     let mut counted = 0u64;
     let mut cpus = Vec::new(alloc);
@@ -251,6 +258,7 @@ impl<'a, D: Domain> Bus<'a, D> {
     /// All batches of a CPU, which comes back.
     fn carry_all(&self, mut cpu: Cpu<D>) -> Carried<D>
         ensures made { IfOk result (λ back. back.1.made ≡ cpu.made) }
+        ensures counted { IfOk result (λ back. total_of back.0 ≤ answers_in back.1.log) }
     {
         let mut tally = Tally([0; 9]);
         for _ in 0..BATCHES {
@@ -261,9 +269,10 @@ impl<'a, D: Domain> Bus<'a, D> {
     }
 
     /// One batch: one section with thirty-two lookups in it. The last packet has to wait, so it takes a passive reference along.
-    #[tactic(auto, using(crate::proofs::Accounted::enter_made, crate::proofs::Accounted::acquire_made))]
+    #[tactic(auto, using(crate::proofs::Accounted::enter_made, crate::proofs::Accounted::acquire_made, crate::proofs::Searched::enter_answers, crate::proofs::Searched::acquire_answers, crate::proofs::Searched::exit_answers))]
     fn carry_batch(&self, cpu: &mut Cpu<D>, tally: &mut Tally) -> Result<(), Failure>
         ensures made { IfOk result (λ _. cpu.new.made ≡ cpu.old.made) }
+        ensures counted { IfOk result (λ _. total_of tally.new + answers_in cpu.old.log ≤ total_of tally.old + answers_in cpu.new.log) }
     {
         let words = self.registry.words();
         enter(words, cpu)?;
@@ -283,6 +292,7 @@ impl<'a, D: Domain> Bus<'a, D> {
         requires inside { cpu.old.view.begin ≢ None }
         ensures inside { cpu.new.view.begin ≢ None }
         ensures made { cpu.new.made ≡ cpu.old.made }
+        ensures counted { total_of tally.new + answers_in cpu.old.log ≤ total_of tally.old + answers_in cpu.new.log }
     {
         let mut last = None;
         for _ in 0..BATCH {
@@ -294,9 +304,10 @@ impl<'a, D: Domain> Bus<'a, D> {
 
     /// A packet that had to wait outside of any section: by now the interface may be pulled out, but its record is still there, since the
     /// reference holds it. The reference goes back to the CPU that acquired it.
-    #[tactic(auto, using(crate::proofs::Accounted::read_made, crate::proofs::Accounted::release_made))]
+    #[tactic(auto, using(crate::proofs::Accounted::read_made, crate::proofs::Accounted::release_made, crate::proofs::Searched::read_answers, crate::proofs::Searched::release_answers))]
     fn send_late(&self, cpu: &mut Cpu<D>, psref: Psref, found: Option<Entry>) -> Result<(), Failure>
         ensures made { IfOk result (λ _. cpu.new.made ≡ cpu.old.made) }
+        ensures log { IfOk result (λ _. answers_in cpu.old.log ≤ answers_in cpu.new.log) }
     {
         yield_now();
         let words = self.registry.words();
@@ -396,18 +407,24 @@ impl<'a, D: Domain> Bus<'a, D> {
 
 impl Tally {
     /// Counts a packet for what its lookup found.
-    fn count(&mut self, found: Option<Entry>) {
+    #[tactic(auto, using(crate::proofs::Searched::total_set))]
+    fn count(&mut self, found: Option<Entry>)
+        ensures { total_of self.new ≤ total_of self.old + 1 }
+    {
         let place = match found {
             Some(entry) => entry.rec.value as usize,
             None => 0,
         };
-        if let Some(count) = self.0.get_mut(place) {
-            *count = count.saturating_add(1);
+        if place < self.0.len() {
+            self.0[place] = self.0[place].saturating_add(1);
         }
     }
 
     /// The packets that were counted.
-    fn total(&self) -> u64 {
+    #[tactic(auto, using(crate::proofs::Searched::total_next, crate::proofs::Searched::total_first))]
+    fn total(&self) -> u64
+        ensures { result ≤ total_of self.now }
+    {
         let mut total = 0u64;
         for count in self.0 {
             total = total.saturating_add(count);

@@ -186,7 +186,7 @@ impl<'a, D: Domain, G: Gate> Shared<'a, D, G> {
     )
         ensures { GoesOn counts.old counts.new }
     {
-        let own = cpu.plain.id;
+        let own = cpu.plain.row.cpu;
         let next = next_basket(own, self.plan.cpus);
         let laid = Laid { by: own, reference };
         let back = self.baskets.exchange(rt, next, laid);

@@ -37,8 +37,9 @@ pub fn why(error: impl Into<RegistryError>) -> RegistryError {
     error.into()
 }
 
-/// Longer than anything takes that these tests wait for.
-pub const LONG: Duration = Duration::from_secs(20);
+/// Longer than anything takes that these tests wait for, on the busiest machine: it is the time
+/// limit of the gate's tests.
+pub const LONG: Duration = Duration::from_secs(3600);
 
 /// A patience that ends, so that a test fails where it would wait for ever.
 pub fn patience() -> Patience {

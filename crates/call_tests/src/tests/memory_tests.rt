@@ -102,7 +102,7 @@ fn are_counted(list: &[Balance]) -> bool {
     }
 }
 
-/// Whether so many local references are held, all of which CPU 0 has acquired.
+/// Whether so many local references are held, all acquired by CPU 0.
 fn is_counted(balance: &Balance, number: u64, slot: u8, held: i64) -> bool {
     (balance.number, balance.slot) == (number, slot)
         && (balance.held, balance.total) == (held, 0)

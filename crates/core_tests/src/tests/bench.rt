@@ -1,4 +1,4 @@
-//! Rows of commands and of events with the answers that are expected of them, and what runs them.
+//! Rows of commands and of events with the replies that are expected, and what runs them.
 //!
 //! A row is plain data: a name is text in it, a passive reference its CPU and number, a local one its id.
 

@@ -43,7 +43,7 @@ fn words(t: u8, number: u64, name: u64, value: u64, next: u64) -> [Event; 8] {
     ]
 }
 
-/// The entry in slot t takes the place of the one in u, of which the snapshots are taken.
+/// The entry in slot t takes the place of the one in u, and the snapshots of that one are taken.
 fn replacing(t: u8, u: u8) -> [Event; 3] {
     [
         Event::Republish(t, u),
@@ -211,7 +211,8 @@ fn twice_in_one_place(rt: HostRuntime) -> Result<(), Fail> {
     Ok(())
 }
 
-/// The history has room for two changes of each live entry, one of which is made: for none more at a limit of 3, and for one at 4.
+/// The history has room for two changes of each live entry. One of them is made: there is room for none more at a limit of 3, and
+/// for one at 4.
 #[test]
 fn history_has_room(rt: HostRuntime) -> Result<(), Fail> {
     for (limit, fits) in &[(3, false), (4, true)] {
@@ -286,7 +287,7 @@ const LINK: Ask = Ask::Step(Event::LoadLink(0));
 
 const WORD: Ask = Ask::Step(Event::LoadRecord(RecordOf::Search(0)));
 
-/// The entry that a search stands on is replaced, and then the next one: the search goes on by the old one's link, and finds the old next one.
+/// The entry that a search has reached is replaced, and then the next one: the search goes on by the old one's link, and finds the old next one.
 #[test]
 fn search_on_a_replaced_entry(rt: HostRuntime) -> Result<(), Fail> {
     let mut core = listed(&rt)?;

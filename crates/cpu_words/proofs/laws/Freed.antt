@@ -24,12 +24,12 @@ use Rattle.protocol.proofs.keeps.Linking.{within_live}
 use Rattle.protocol.proofs.Cells.{slot_here}
 use Rattle.protocol.proofs.keeps.CountKeeps.{live_tells}
 use Rattle.protocol.proofs.runs.Fresh.{honest_tells}
-use Rattle.cpu_words.specs.Common.{LogItem, Logged, View, Good, ShowsViews, IsDetachedFrom, IsFreedFrom, part, without_logs, AreByOwn, EndedSeat, LoggedRuled, EndsRunForAll, EndedRunsForAll, FreesNoneHeld, IsWholeIn, IsStillThere, cpu_end, end_of, RunsAsLogged, IsGone, FreedIsGone, FreedByKeeper, Sits, IsStanding, KeeperView, Keeper, log_item, changes_in, keeping, KeepsDriver, AttachedKeeps, Agrees, EndedRuns, EndsRun, EndsRunFor, CpuShown, CpuView, Cpu, IsGoneFrom, KeeperShown, Shown, live_of, KeepsAsLong, IsAttachedKeeping, by_number}
+use Rattle.cpu_words.specs.Common.{LogItem, Logged, View, Good, ShowsViews, IsDetachedFrom, IsFreedFrom, part, without_logs, AreByOwn, EndedSeat, LoggedRuled, EndsRunForAll, EndedRunsForAll, CountExactly, FreesNoLocals, FreesNoneHeld, IsWholeIn, IsStillThere, cpu_end, end_of, RunsAsLogged, IsGone, FreedIsGone, FreedByKeeper, Sits, IsStanding, KeeperView, Keeper, log_item, changes_in, keeping, KeepsDriver, AttachedKeeps, Agrees, EndedRuns, EndsRun, EndsRunFor, CpuShown, CpuView, Cpu, IsGoneFrom, KeeperShown, Shown, live_of, passive_by, references_to, KeepsAsLong, IsAttachedKeeping, by_number}
 use Rattle.cpu_words.proofs.logs.Loads.{run_as_logged, same_event, place, halve}
 use Rattle.cpu_words.proofs.shown.Seeing.{attached_prefix, prefix_both, taken_is_prefix}
 use Rattle.cpu_words.proofs.shown.Showing.{backed}
 use Rattle.cpu_words.proofs.laws.Safety.{running_headline, seat_has_slot}
-use Rattle.cpu_words.proofs.laws.Held.{frees_none_held, whole}
+use Rattle.cpu_words.proofs.laws.Held.{counts_exactly, frees_no_locals, frees_none_held, has_references, whole}
 use Rattle.cpu_words.proofs.laws.Waiting.{own_first}
 use Rattle.cpu_words.proofs.logs.Known.{Known, known_stays, known_first, keeps_on}
 use Rattle.cpu_words.proofs.logs.Runs.{part_append, Follows, follows_after, follows_holds, cut, walked}
@@ -337,11 +337,13 @@ whole_in z s r k first i l x at is =
     let its = run.shows.fits i l.view (at_map (λ (d : Logged). d.view) s.views i l at) in
     let shown : CpuShown (after (opening z) run.events) x = subst (Shown (after (opening z) run.events)) is its.1 in
     let sits : i ≡ run.seat x.id = subst (Sits run.seat i) is its.0 in
+    let own : part (run.seat x.id) r.acts ≡ l.log = ap (λ (j : ℕ). part j r.acts) (sym sits) ∙ sym (r.logs i l at (subst IsStanding (sym is) tt)) in
     record {
-      own = ap (λ (j : ℕ). part j r.acts) (sym sits) ∙ sym (r.logs i l at (subst IsStanding (sym is) tt));
+      own = own;
       shown = shown;
       known = (r.known i l at).0;
       seen = seen_by (after (opening z) run.events) x k shown (run.shows.fits 0 (Keeper k) first).1;
+      references = λ n. subst (λ (d : List LogItem). passive_by n d ≡ references_to n x.references) own (has_references z s r x shown n);
     }
 
 whole_in_as : (z : Settings) (s : Table ℕ Logged) (r : RunsAsLogged z s) (k : KeeperView) (first : get_elem? (without_logs s).views 0 ≡ some (Keeper k)) (e : EndedSeat) (x : CpuView)
@@ -357,6 +359,17 @@ held_in : (z : Settings) (s : Table ℕ Logged) (r : RunsAsLogged z s) (k : Keep
 unfolding ends_run
 held_in z s r k first = frees_none_held z s r
 
+-- nor one that there is a local reference to
+locals_in : (z : Settings) (s : Table ℕ Logged) (r : RunsAsLogged z s) (k : KeeperView) (first : get_elem? (without_logs s).views 0 ≡ some (Keeper k))
+    → FreesNoLocals (ends_run z s r k first).seat (after (opening z) (ends_run z s r k first).events).seated (ends_run z s r k first).acts
+unfolding ends_run
+locals_in z s r k first = frees_no_locals z s r
+
+exact_in : (z : Settings) (s : Table ℕ Logged) (r : RunsAsLogged z s) (k : KeeperView) (first : get_elem? (without_logs s).views 0 ≡ some (Keeper k))
+    → CountExactly z (ends_run z s r k first).events (ends_run z s r k first).seat (ends_run z s r k first).acts
+unfolding ends_run
+exact_in z s r k first = counts_exactly z s r
+
 ends_for_all : (z : Settings) (s : Table ℕ Logged) (ruled : LoggedRuled z s) (k : KeeperView) (i : ℕ) (l : Logged) → get_elem? s.views i ≡ some l → l.view ≡ Keeper k → EndsRunForAll z k l.log l.ends s.words
 ends_for_all z s ruled k i l at is =
     let r = running_headline z s ruled in
@@ -368,6 +381,8 @@ ends_for_all z s ruled k i l at is =
       run = ends_run z s r k first;
       each = λ n x did known_log taken. whole_in_as z s r k first (cpu_end x did known_log) x did known_log (ruled.ends i l at n (cpu_end x did known_log) taken) refl;
       held = held_in z s r k first;
+      locals = locals_in z s r k first;
+      exact = exact_in z s r k first;
     })
 
 pub ended_runs_for_all : EndedRunsForAll

@@ -1,13 +1,13 @@
 -- No entry is freed while a CPU's section holds it: what it found inside stays held, until it leaves, and a slot is freed only where nothing holds its entry.
-use Rattle.std.proofs.Common.{◌≡◌, ◌≢◌, ◌⊎◌, inl, inr, ⊎_elim, ℕ, ◌-◌, ◌<◌, ◌≤◌, Bool, true, false, List, [], ◌∷◌, ◌++◌, length, Option, Some, None, IsSome, IsTrue, get_or-set_same, get_or-set_other, refl, sym, ap, ◌∙◌, subst, arith}
+use Rattle.std.proofs.Common.{◌≡◌, ◌≢◌, ◌⊎◌, inl, inr, ⊎_elim, ℕ, zero, suc, ◌<◌, ◌≤◌, Bool, true, false, List, [], ◌∷◌, ◌++◌, length, Option, Some, None, IsSome, IsTrue, get_or-set_same, get_or-set_other, take, refl, sym, ap, ◌∙◌, subst, arith}
 use Rattle.std.proofs.lemmas.Bool.{and_parts, cases_eq, cases_lt}
 use Rattle.std.proofs.lemmas.Option.{none-some, same_Some}
 use mathlib.Core.Option.{some-injective}
 use lib.ListN.{get_elem?}
 use Rattle.atomic_table.specs.Table.{State as Table}
-use Rattle.cpu_words.specs.Types.{Entry, Change, Settings, Event, Exit, Refind, LoadRecord, Vacate, KeptSub, Reply, Found, Ref, Retired}
-use Rattle.registry_values.specs.Common.{are_fit, slot_at}
-use Rattle.protocol.specs.Common.{MayHold, State, opening, begin_at, found_at, Holds, Outcome, step, state_after, IsUnheld, passive_at, passive_in, picture, search_over, trying_at, after_refind, after, destroyed_slot, ended_by}
+use Rattle.cpu_words.specs.Types.{Entry, Change, Settings, Empty, Event, Exit, Refind, LoadRecord, Vacate, KeptSub, Reply, Found, Ref, Retired}
+use Rattle.registry_values.specs.Common.{are_fit, slot_at, slot_of}
+use Rattle.protocol.specs.Common.{MayHold, State, opening, begin_at, found_at, Holds, Outcome, step, state_after, IsUnheld, Model, passive_in, picture, search_over, after_refind, after, destroyed_slot, ended_by}
 use Rattle.protocol.proofs.Made.{Made, Enters, Exits, LoadsLast, Refinds, made}
 use Rattle.protocol.proofs.History.{at_prefix}
 use Rattle.protocol.proofs.keeps.Keeping.{opening_holds, step_holds}
@@ -16,15 +16,18 @@ use Rattle.protocol.proofs.keeps.SectionKeeps.{none_from, refind_tells}
 use Rattle.protocol.proofs.runs.Headline.{obeys_laws}
 use Rattle.protocol.specs.declared.event.RecordOf.TheVariants.{Search as OfSearch}
 use Rattle.protocol.proofs.runs.Reuse.{destroyed_drained}
-use Rattle.protocol.proofs.Occupied.{attached_in}
-use Rattle.cpu_words.specs.Common.{LogItem, Logged, RunsAsLogged, AreByOwn, IsSeatOf, maker, the_cpu, by_number, part, without_logs, HasNone, Finds, FreesNoneHeld, HasFoundInside, is_exit, no_entry, occupant, occupant_of, passive_from, reply_without_id, Cpu, View, cpu_of}
+use Rattle.protocol.proofs.Occupied.{attached_in, slot_found, slot_has}
+use Rattle.protocol.proofs.Cells.{get_or_all}
+use Rattle.protocol.proofs.model.Refining.{opening_pictured}
+use Rattle.cpu_words.specs.Common.{LogItem, Logged, RunsAsLogged, AreByOwn, IsSeatOf, maker, the_cpu, by_number, part, without_logs, HasNone, CountExactly, Finds, FreesNoLocals, FreesNoneHeld, HasFoundInside, is_exit, no_entry, occupant, occupant_of, passive_by, references_to, reply_without_id, Cpu, CpuShown, CpuView, View, cpu_of}
 use Rattle.cpu_words.proofs.logs.Loads.{run_as_logged, is_whole, same_event, place, part_same, part_off}
 use Rattle.cpu_words.proofs.logs.Known.{Known, known_stays, known_first}
-use Rattle.cpu_words.proofs.logs.Runs.{Follows, follows_holds, cut, walked}
+use Rattle.cpu_words.proofs.logs.Runs.{Follows, follows_after, follows_holds, cut, walked}
 use Rattle.cpu_words.proofs.laws.Fresh.{own_last}
-use Rattle.cpu_words.proofs.laws.Passing.{counted_along}
+use Rattle.cpu_words.proofs.laws.Passing.{counted_along, passives, tried_in}
+use Rattle.cpu_words.proofs.laws.Counting.{counted_together, unheld_has_none}
 use Rattle.cpu_words.proofs.laws.Waiting.{own_first}
-use Rattle.cpu_words.proofs.shown.Seeing.{attached_prefix}
+use Rattle.cpu_words.proofs.shown.Seeing.{attached_prefix, tries}
 
 -- One event
 
@@ -193,6 +196,16 @@ unheld_at cpus log m freed more (x ∷ es) g t n run on known of has =
     let number : f.number ≡ n = same_Some f.number n (sym (known.counts.occupants t ∙ ap occupant_of here) ∙ has) in
     subst (λ (j : ℕ). IsUnheld (picture m) j) number unheld
 
+-- a CPU's log counts its passive references
+counts_by : (seat : ℕ → ℕ) (cpus : ℕ) (z : Settings) (c n : ℕ) (acts : List (ℕ × LogItem)) (es : List Event) (t : State) → Follows (opening z) acts es t → IsTrue (are_fit z) → AreByOwn seat cpus acts
+    → ((d : ℕ) → d < cpus → seat c ≡ seat d → d ≡ c) → passive_by n (part (seat c) acts) ≡ passives t c n
+counts_by seat cpus z c n acts es t run fit own only = counted_along seat cpus c n None 0 (opening z) acts es t run (opening_holds z fit) own only
+    (sym (ap tried_in (get_or_all z.cpus Empty c)))
+    (sym (ap (λ (m : Model). m.passive c n) (opening_pictured z)))
+
+fits : (z : Settings) (s : Table ℕ Logged) → RunsAsLogged z s → IsTrue (are_fit z)
+fits z s r = subst (λ (a : Settings). IsTrue (are_fit a)) r.run.settings r.run.good.holds.fit
+
 -- no two CPUs have one seat
 one_cpu : (z : Settings) (s : Table ℕ Logged) (r : RunsAsLogged z s) (c : ℕ) → c < (after (opening z) r.run.events).seated → (d : ℕ) → d < (after (opening z) r.run.events).seated
     → r.run.seat c ≡ r.run.seat d → d ≡ c
@@ -202,25 +215,103 @@ one_cpu z s r c below d lt same =
     let views : Cpu v.0 ≡ Cpu w.0 = some-injective _ _ (sym v.1 ∙ (ap (get_elem? (without_logs s).views) same ∙ w.1)) in
     sym w.2 ∙ (ap (λ (x : View). (cpu_of x).id) (sym views) ∙ v.2)
 
-pub frees_none_held : (z : Settings) (s : Table ℕ Logged) (r : RunsAsLogged z s) → FreesNoneHeld r.run.seat (after (opening z) r.run.events).seated r.acts
-frees_none_held z s r c below first rest freed t n are of has holds =
+-- the run as far as an event that frees the slot t, whose entry is n by the keeper's log until then
+record IsFreeing (seat : ℕ → ℕ) (cpus : ℕ) (z : Settings) (first : List (ℕ × LogItem)) (n : ℕ) : Type 0 where
+  events : List Event
+  at : State
+  run : Follows (opening z) first events at
+  own : AreByOwn seat cpus first
+  unheld : IsUnheld (picture at) n
+
+freeing : (z : Settings) (s : Table ℕ Logged) (r : RunsAsLogged z s) (first rest : List (ℕ × LogItem)) (freed : ℕ × LogItem) (t n : ℕ) → r.acts ≡ first ++ freed ∷ rest
+    → destroyed_slot freed.1.event ≡ Some t → occupant t (part 0 first) ≡ Some n → IsFreeing r.run.seat (after (opening z) r.run.events).seated z first n
+freeing z s r first rest freed t n are of has =
     let run = r.run in
     let g : State = after (opening z) run.events in
-    let fit : IsTrue (are_fit z) = subst (λ (a : Settings). IsTrue (are_fit a)) run.settings run.good.holds.fit in
+    let begin = opening_holds z (fits z s r) in
     let k = cut (opening z) first (freed ∷ rest) run.events g (subst (λ (x : List (ℕ × LogItem)). Follows (opening z) x run.events g) are (run_as_logged z s r)) in
-    let on : Holds k.between = follows_holds (opening z) first k.earlier k.between k.before (opening_holds z fit) in
+    let on : Holds k.between = follows_holds (opening z) first k.earlier k.between k.before begin in
     let own = own_first run.seat g.seated first (freed ∷ rest) (subst (AreByOwn run.seat g.seated) are r.owners) in
     let known : Known z.cpus (part 0 first) k.between =
-    walked run.seat g.seated (Known z.cpus) [] (opening z) first k.earlier k.between (known_stays run.seat g.seated z.cpus) k.before (opening_holds z fit) own (known_first z) in
-    let unheld = unheld_at z.cpus (part 0 first) k.between freed rest k.later g t n k.since on known of has in
+    walked run.seat g.seated (Known z.cpus) [] (opening z) first k.earlier k.between (known_stays run.seat g.seated z.cpus) k.before begin own (known_first z) in
+    record {
+      events = k.earlier;
+      at = k.between;
+      run = k.before;
+      own = own;
+      unheld = unheld_at z.cpus (part 0 first) k.between freed rest k.later g t n k.since on known of has;
+    }
+
+pub frees_none_held : (z : Settings) (s : Table ℕ Logged) (r : RunsAsLogged z s) → FreesNoneHeld r.run.seat (after (opening z) r.run.events).seated r.acts
+frees_none_held z s r c below first rest freed t n are of has holds =
+    let seat = r.run.seat in
+    let cpus = (after (opening z) r.run.events).seated in
+    let fit = fits z s r in
+    let k = freeing z s r first rest freed t n are of has in
     ⊎_elim
-    (λ (inside : HasFoundInside n (part (run.seat c) first)).
-    let held = held_inside run.seat g.seated c n (opening z) first k.earlier k.between k.before (opening_holds z fit) own (one_cpu z s r c below) inside in
-    unheld.sections c held.held.begin held.entry held.held.open_since held.held.may held.number)
-    (λ (some_one : 0 < passive_from n 0 (part (run.seat c) first)).
-    let word = counted_along run.seat g.seated c n 0 (opening z) first k.earlier k.between k.before (opening_holds z fit) own (one_cpu z s r c below) (λ none. absurd (omega (arith, none))) some_one in
-    let none : passive_at k.between.passive c word.slot - trying_at k.between.hands c word.slot ≡ 0 =
-    sym (ap (passive_in k.between.passive k.between.hands c) word.of) ∙ unheld.passive c in
-    let enough = word.enough in
-    omega (arith, none, enough, some_one))
+    (λ (inside : HasFoundInside n (part (seat c) first)).
+    let held = held_inside seat cpus c n (opening z) first k.events k.at k.run (opening_holds z fit) k.own (one_cpu z s r c below) inside in
+    k.unheld.sections c held.held.begin held.entry held.held.open_since held.held.may held.number)
+    (λ (some_one : 0 < passive_by n (part (seat c) first)).
+    let none : passives k.at c n ≡ 0 = k.unheld.passive c in
+    let counted = counts_by seat cpus z c n first k.events k.at k.run fit k.own (one_cpu z s r c below) in
+    omega (arith, none, counted, some_one))
     holds
+
+pub frees_no_locals : (z : Settings) (s : Table ℕ Logged) (r : RunsAsLogged z s) → FreesNoLocals r.run.seat (after (opening z) r.run.events).seated r.acts
+frees_no_locals z s r first rest freed t n are of has =
+    let k = freeing z s r first rest freed t n are of has in
+    omega (
+      arith,
+      counted_together r.run.seat (after (opening z) r.run.events).seated n z first k.events k.at k.run (opening_holds z (fits z s r)) k.own (λ c low. one_cpu z s r c low) (known_first z),
+      unheld_has_none k.at n k.unheld,
+    )
+
+-- What the logs count is what there is, after each number of events
+
+first_acts : (s : State) (acts : List (ℕ × LogItem)) (es : List Event) (t : State) → Follows s acts es t → (i : ℕ) → Follows s (take i acts) (take i es) (after s (take i es))
+first_acts s acts es t run i = let part_of = begun s acts es t run i in subst (Follows s (take i acts) (take i es)) (follows_after s (take i acts) (take i es) part_of.0 part_of.1) part_of.1
+  where
+    begun : (s : State) (acts : List (ℕ × LogItem)) (es : List Event) (t : State) → Follows s acts es t → (i : ℕ) → (u : State) × Follows s (take i acts) (take i es) u
+    begun s acts es t run zero = (s, refl)
+    begun s [] [] t run (suc i) = (s, refl)
+    begun s [] (e ∷ es) t run (suc i) = absurd run
+    begun s (a ∷ more) [] t run (suc i) = absurd run
+    begun s (a ∷ more) (e ∷ es) t run (suc i) = let later = begun run.0.state more es t run.3 i in (later.0, (run.0, run.1, run.2, later.1))
+
+first_own : (seat : ℕ → ℕ) (n i : ℕ) (acts : List (ℕ × LogItem)) → AreByOwn seat n acts → AreByOwn seat n (take i acts)
+first_own seat n zero acts own = tt
+first_own seat n (suc i) [] own = tt
+first_own seat n (suc i) (a ∷ more) own = (own.0, first_own seat n i more own.1)
+
+pub counts_exactly : (z : Settings) (s : Table ℕ Logged) (r : RunsAsLogged z s) → CountExactly z r.run.events r.run.seat r.acts
+counts_exactly z s r =
+    let seat = r.run.seat in
+    let cpus = (after (opening z) r.run.events).seated in
+    let fit = fits z s r in
+    let run : (i : ℕ) → Follows (opening z) (take i r.acts) (take i r.run.events) (after (opening z) (take i r.run.events)) =
+    λ i. first_acts (opening z) r.acts r.run.events (after (opening z) r.run.events) (run_as_logged z s r) i in
+    let own : (i : ℕ) → AreByOwn seat cpus (take i r.acts) = λ i. first_own seat cpus i r.acts r.owners in
+    record {
+      passive = λ i c n below. counts_by seat cpus z c n (take i r.acts) (take i r.run.events) (after (opening z) (take i r.run.events)) (run i) fit (own i) (one_cpu z s r c below);
+      locals = λ i n. counted_together seat cpus n z (take i r.acts) (take i r.run.events) (after (opening z) (take i r.run.events)) (run i) (opening_holds z fit) (own i)
+          (λ c low. one_cpu z s r c low) (known_first z);
+    }
+
+-- Passive references by a log are those of the view
+
+pub has_references : (z : Settings) (s : Table ℕ Logged) (r : RunsAsLogged z s) (x : CpuView) → CpuShown (after (opening z) r.run.events) x → (n : ℕ)
+    → passive_by n (part (r.run.seat x.id) r.acts) ≡ references_to n x.references
+has_references z s r x shown n =
+    let run = r.run in
+    let g : State = after (opening z) run.events in
+    counts_by run.seat g.seated z x.id n r.acts run.events g (run_as_logged z s r) (fits z s r) r.owners (one_cpu z s r x.id shown.seated) ∙ in_view g (slot_of g.slots n) refl shown
+  where
+    in_view : (g : State) (o : Option ℕ) → slot_of g.slots n ≡ o → CpuShown g x → passive_in g.passive g.hands x.id o ≡ references_to n x.references
+    in_view g None none shown = sym (shown.gone n (λ is. let found = slot_found g.slots n is in none-some found.0 (sym none ∙ found.1)))
+    in_view g (Some t) at shown =
+        let has = slot_has g.slots n t at in
+        let word = shown.passive t has.1.0 has.1.1 in
+        let tried = tries g x t shown in
+        let same : references_to has.1.0.number x.references ≡ references_to n x.references = ap (λ (m : ℕ). references_to m x.references) has.1.2 in
+        omega (arith, word, tried, same)

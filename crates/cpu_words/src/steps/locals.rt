@@ -7,27 +7,29 @@ ghost use Rattle.cpu_words.specs.declared.view.View.TheVariants.{Cpu, Reference}
 ghost use Rattle.cpu_words.specs.declared.view.InHand.TheVariants.{Giving as GivingEntry};
 ghost use Rattle.cpu_words.specs.Sections.{IsIdle};
 ghost use Rattle.cpu_words.specs.Rule.{did};
+ghost use Rattle.cpu_words.specs.Spots.{IsRowOf};
 ghost use Rattle.cpu_words.specs.Steps.{Makes, SplitsBy, JoinsBy, SeatGoesOn, SeatMakes, SeatRegroups};
 ghost use Rattle.cpu_words.specs.Locals.{down_reply, IsTaking, IsBack, IsNetCount, IsMetAlone, MayCount, HasCounted, MayCountDown, HasCountedDown, HasFoundCollected, HasSplit, HasSplitBack, with_hand};
 
 use crate::law::Words;
-use crate::layout::count_place;
+use crate::layout::Row;
 use crate::operations::by_seat;
 use crate::operations::in_hand::InHandReference;
 use crate::seat::{CpuSeat, MustJoin, ReferenceSeat};
 use protocol::Event;
 use std::marker::Brand;
 
-/// CPU `cpu` counts a local reference to its last found entry, the one with `number` (from 1) in `slot` (from 0), and has it in its hand:
+/// The row's CPU counts a local reference to its last found entry, the one with `number` (from 1) in `slot` (from 0), and has it in its hand:
 /// one addition to its count word. Returns the word as it was, which is its net count for that number, over the bias.
 /// Condition: the seat is that CPU's, idle, and its net count for that number is below the count limit. The CPU's place of that slot has
 /// that count; if the place has another number, the count is 0.
-pub fn count_add(words: &Words, seat: &mut CpuSeat, cpu: u8, slot: u8, number: u64) -> u64
+pub fn count_add(words: &Words, seat: &mut CpuSeat, row: Row, slot: u8, number: u64) -> u64
     requires table { seat.old.table ≡ words.now.table }
-    requires place { (cpu < words.now.settings.cpus) × (slot < words.now.settings.slots) }
-    requires cpu { seat.old.view.id ≡ cpu }
+    requires place { (row.cpu < words.now.settings.cpus) × (slot < words.now.settings.slots) }
+    requires cpu { seat.old.view.id ≡ row.cpu }
+    requires row { IsRowOf words.now.settings.slots row }
     requires may { MayCount seat.old.view slot number }
-    ensures step { SeatMakes Cpu (CountAdd cpu) (Word result) seat.old seat.new }
+    ensures step { SeatMakes Cpu (CountAdd row.cpu) (Word result) seat.old seat.new }
     ensures change { HasCounted seat.old.view slot number seat.new.view }
     ensures word { IsNetCount seat.old.view number result }
     ensures room { result < bias + seat.old.view.settings.count_limit }
@@ -35,8 +37,8 @@ pub fn count_add(words: &Words, seat: &mut CpuSeat, cpu: u8, slot: u8, number: u
 {
     // The contract alone speaks of the entry's number.
     let _number = number;
-    let word = count_place(words, cpu, slot);
-    by_seat::add::<_, Brand>(words, seat, word, 1, Event::CountAdd(cpu))
+    let word = row.count_place(words, slot);
+    by_seat::add::<_, Brand>(words, seat, word, 1, Event::CountAdd(row.cpu))
 }
 
 /// The reference that CPU `cpu` has just counted leaves its hand and gets a seat of its own.
@@ -105,7 +107,7 @@ pub fn join_ref(words: &Words, seat: &mut CpuSeat, cpu: u8, reference: Reference
         .join_seat::<InHandReference>(&mut seat.token, token);
 }
 
-/// CPU `cpu` counts the reference in its hand, to the entry with `number` (from 1) in `slot` (from 0), down: one compare-exchange of its
+/// The row's CPU counts the reference in its hand, to the entry with `number` (from 1) in `slot` (from 0), down: one compare-exchange of its
 /// count word from `expected` to one less. Returns the word as it was. If it isn't `expected`, the keeper has collected the word, and the
 /// reference stays in the hand, to go back.
 /// Condition: the seat is that CPU's, with such a reference in its hand, and `expected` is its net count for that number, over the bias.
@@ -113,30 +115,31 @@ pub fn join_ref(words: &Words, seat: &mut CpuSeat, cpu: u8, reference: Reference
 pub fn count_down(
     words: &Words,
     seat: &mut CpuSeat,
-    cpu: u8,
+    row: Row,
     slot: u8,
     number: u64,
     expected: u64,
 ) -> u64
     requires table { seat.old.table ≡ words.now.table }
-    requires place { (cpu < words.now.settings.cpus) × (slot < words.now.settings.slots) }
-    requires cpu { seat.old.view.id ≡ cpu }
+    requires place { (row.cpu < words.now.settings.cpus) × (slot < words.now.settings.slots) }
+    requires cpu { seat.old.view.id ≡ row.cpu }
+    requires row { IsRowOf words.now.settings.slots row }
     requires may { MayCountDown seat.old.view slot number expected }
-    ensures step { SeatGoesOn (did (CountDown cpu) (down_reply expected result)) seat.old seat.new }
+    ensures step { SeatGoesOn (did (CountDown row.cpu) (down_reply expected result)) seat.old seat.new }
     ensures floor { 0 < expected }
     ensures net { IsNetCount seat.old.view number expected }
     ensures alone { IsMetAlone seat.old.view slot number }
-    ensures counted { result ≡ expected → Makes (CountDown cpu) (Word result) (Cpu seat.old.view) (Cpu seat.new.view) × HasCountedDown seat.old.view slot number seat.new.view }
-    ensures collected { result ≢ expected → Makes (CountDown cpu) Collected (Cpu seat.old.view) (Cpu seat.new.view) × HasFoundCollected seat.old.view number seat.new.view }
+    ensures counted { result ≡ expected → Makes (CountDown row.cpu) (Word result) (Cpu seat.old.view) (Cpu seat.new.view) × HasCountedDown seat.old.view slot number seat.new.view }
+    ensures collected { result ≢ expected → Makes (CountDown row.cpu) Collected (Cpu seat.old.view) (Cpu seat.new.view) × HasFoundCollected seat.old.view number seat.new.view }
 {
     // The contract alone speaks of the entry's number.
     let _number = number;
     by_seat::compare_exchange::<_, Brand>(
         words,
         seat,
-        count_place(words, cpu, slot),
+        row.count_place(words, slot),
         expected,
         expected.wrapping_sub(1),
-        Event::CountDown(cpu),
+        Event::CountDown(row.cpu),
     )
 }

@@ -1,4 +1,4 @@
-//! An entry is recalled, by a CPU's seat: inside a section or outside, by one load of its slot's live word, whatever the length of the list.
+//! An entry is recalled, by a CPU's seat: inside a section or outside, by one load of its slot's live word, however long the list is.
 //! Inside it may be found again by that load. Of the newest live entry the head tells the slot.
 
 ghost use Rattle.std.specs.Prelude.{◌≡◌, ◌≢◌, ◌<◌, None};

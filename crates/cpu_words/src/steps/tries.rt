@@ -5,29 +5,31 @@ ghost use Rattle.std.specs.Prelude.{◌≡◌, ◌≢◌, ◌<◌};
 ghost use Rattle.cpu_words.specs.Types.{Try, Confirm, TakeBack, Recall, Word};
 ghost use Rattle.cpu_words.specs.declared.view.View.TheVariants.{Cpu};
 ghost use Rattle.cpu_words.specs.Rule.{did};
+ghost use Rattle.cpu_words.specs.Spots.{IsRowOf};
 ghost use Rattle.cpu_words.specs.Steps.{Makes, SeatGoesOn, SeatMakes};
 ghost use Rattle.cpu_words.specs.Passives.{HasSeenMore, event_by, HasConfirmed, HasTakenBack, HasTried, MayEndTry, MayTakeBack, MayTry};
 
 use crate::law::Words;
-use crate::layout::{live_place, passive_place};
+use crate::layout::{Row, live_place};
 use crate::operations::by_seat;
 use crate::seat::CpuSeat;
 use protocol::Event;
 use std::marker::Brand;
 
-/// CPU `cpu` counts its passive word of `slot` up, to get a reference to the entry with `number`: one addition. Returns the word as it was.
+/// The row's CPU counts its passive word of `slot` up, to get a reference to the entry with `number`: one addition. Returns the word as it was.
 /// Condition: the seat is that CPU's and idle, and that entry of the slot is in its pass. The slot is one of the table's, and the CPU has fewer
 /// references into it than the passive limit.
-pub fn begin_try(words: &Words, seat: &mut CpuSeat, cpu: u8, slot: u8, number: u64) -> u64
+pub fn begin_try(words: &Words, seat: &mut CpuSeat, row: Row, slot: u8, number: u64) -> u64
     requires table { seat.old.table ≡ words.now.table }
-    requires cpu { (cpu < words.now.settings.cpus) × (seat.old.view.id ≡ cpu) }
+    requires cpu { (row.cpu < words.now.settings.cpus) × (seat.old.view.id ≡ row.cpu) }
     requires place { slot < words.now.settings.slots }
+    requires row { IsRowOf words.now.settings.slots row }
     requires may { MayTry seat.old.view slot number }
-    ensures step { SeatMakes Cpu (Try cpu slot number) (Word result) seat.old seat.new }
+    ensures step { SeatMakes Cpu (Try row.cpu slot number) (Word result) seat.old seat.new }
     ensures change { HasTried seat.old.view number seat.new.view }
 {
-    let word = passive_place(words, cpu, slot);
-    by_seat::add::<_, Brand>(words, seat, word, 1, Event::Try(cpu, slot, number))
+    let word = row.passive_place(words, slot);
+    by_seat::add::<_, Brand>(words, seat, word, 1, Event::Try(row.cpu, slot, number))
 }
 
 /// CPU `cpu` loads the live word of `slot`, and returns it. If it is `number`, what the CPU counted up is a reference to that entry, which is
@@ -52,16 +54,17 @@ pub fn end_try(words: &Words, seat: &mut CpuSeat, cpu: u8, slot: u8, number: u64
     )
 }
 
-/// CPU `cpu` counts its passive word of `slot` down again: one subtraction. Returns the word as it was.
+/// The row's CPU counts its passive word of `slot` down again: one subtraction. Returns the word as it was.
 /// Condition: the seat is that CPU's, and it has counted that word up to get a reference.
-pub fn take_back(words: &Words, seat: &mut CpuSeat, cpu: u8, slot: u8) -> u64
+pub fn take_back(words: &Words, seat: &mut CpuSeat, row: Row, slot: u8) -> u64
     requires table { seat.old.table ≡ words.now.table }
-    requires cpu { (cpu < words.now.settings.cpus) × (seat.old.view.id ≡ cpu) }
+    requires cpu { (row.cpu < words.now.settings.cpus) × (seat.old.view.id ≡ row.cpu) }
     requires place { slot < words.now.settings.slots }
+    requires row { IsRowOf words.now.settings.slots row }
     requires may { MayTakeBack seat.old.view slot }
-    ensures step { SeatMakes Cpu (TakeBack cpu) (Word result) seat.old seat.new }
+    ensures step { SeatMakes Cpu (TakeBack row.cpu) (Word result) seat.old seat.new }
     ensures change { HasTakenBack seat.old.view seat.new.view }
 {
-    let word = passive_place(words, cpu, slot);
-    by_seat::subtract::<_, Brand>(words, seat, word, 1, Event::TakeBack(cpu))
+    let word = row.passive_place(words, slot);
+    by_seat::subtract::<_, Brand>(words, seat, word, 1, Event::TakeBack(row.cpu))
 }

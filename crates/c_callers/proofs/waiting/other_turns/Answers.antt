@@ -1,4 +1,4 @@
--- A wait of which another CPU tries a turn.
+-- A wait, where another CPU tries a turn.
 use Rattle.std.proofs.Common.{◌∙◌, subst, sym, arith}
 use Rattle.c_handles.specs.declared.values.wait.CWait.{CWait}
 use Rattle.c_calls.specs.Turns.{IsUnderWay}

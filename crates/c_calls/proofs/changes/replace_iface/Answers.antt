@@ -1,30 +1,11 @@
--- The call on the bodies is the call through the handles, by what was given.
-use Rattle.std.proofs.Common.{◌≡◌, ℕ, Option, sym, ap, subst, ◌∙◌}
-use Rattle.c_handles.specs.declared.values.answer.EntryAnswer.{EntryAnswer}
-use Rattle.c_handles.specs.declared.values.answer.NamedAnswer.{NamedAnswer}
-use Rattle.c_handles.specs.declared.values.answer.ReplaceAnswer.{ReplaceAnswer}
-use Rattle.c_handles.specs.declared.values.answer.ReplaceIfaceAnswer.{ReplaceIfaceAnswer}
-use Rattle.c_handles.specs.declared.values.plain.CEntry.{CEntry}
-use Rattle.c_handles.specs.declared.values.plain.CName.{CName}
-use Rattle.c_calls.specs.Changes.{ReplaceIfaceCalls}
-use Rattle.c_calls.proofs.Both.{both_some}
+-- The CPU's words are the keeper's.
+use Rattle.std.proofs.Common.{◌≡◌, sym, ap, subst, ◌∙◌, rules}
+use Rattle.passive_list.specs.Common.{OnPlainCpu, OnPlainKeeper}
+use Rattle.cpu_words.specs.Common.{Named}
 use Rattle.c_calls.proofs.changes.replace_iface.Goals as goal
 
-pub returns-clause-call : goal.returns-clause-call
-returns-clause-call c =
-    let k = c.in-Some.k.now in
-    let x = c.in-Some-body_mut.c.now in
-    let call = c.replace_iface_by-number in
-    let l = call.new.keeper in
-    let y = call.new.cpu in
-    let told = c.with_driver-2.result in
-    let number : told.number ≡ call.result = ap (λ (r : ReplaceIfaceAnswer). r.number) c.with_driver-2.ensures ∙ ap (λ (r : ReplaceAnswer). r.number) c.with_gone-2.ensures ∙ ap (λ (r : NamedAnswer). r.number) c.with_name-answer-2.ensures ∙ ap (λ (r : EntryAnswer). r.number) c.answer-2.ensures in
-    let value : told.place.value ≡ call.new.made.value = ap (λ (r : ReplaceIfaceAnswer). r.place.value) c.with_driver-2.ensures ∙ ap (λ (r : ReplaceAnswer). r.place.value) c.with_gone-2.ensures ∙ ap (λ (r : NamedAnswer). r.place.value) c.with_name-answer-2.ensures ∙ ap (λ (r : EntryAnswer). r.place.value) c.answer-2.ensures in
-    let gone : told.gone.value ≡ call.new.gone.value = ap (λ (r : ReplaceIfaceAnswer). r.gone.value) c.with_driver-2.ensures ∙ ap (λ (r : ReplaceAnswer). r.gone.value) c.with_gone-2.ensures in
-    let named_0 = subst (λ (m : Option CName). ReplaceIfaceCalls m c.name-2.result c.args.value k x l y call.result c.args.gone.value call.new.gone.value c.args.made.value call.new.made.value) c.name.ensures.1 call.ensures.call in
-    let named_1 = subst (λ (m : Option CName). ReplaceIfaceCalls c.args.driver.name m c.args.value k x l y call.result c.args.gone.value call.new.gone.value c.args.made.value call.new.made.value) c.name-2.ensures.1 named_0 in
-    let numbered = subst (λ (n : ℕ). ReplaceIfaceCalls c.args.driver.name c.args.name.name c.args.value k x l y n c.args.gone.value call.new.gone.value c.args.made.value call.new.made.value) (sym number) named_1 in
-    let left = subst (λ (g : Option CEntry). ReplaceIfaceCalls c.args.driver.name c.args.name.name c.args.value k x l y told.number c.args.gone.value g c.args.made.value call.new.made.value) (sym gone) numbered in
-    let valued = subst (λ (v : Option CEntry). ReplaceIfaceCalls c.args.driver.name c.args.name.name c.args.value k x l y told.number c.args.gone.value told.gone.value c.args.made.value v) (sym value) left in
-    both_some c.args.keeper.now.body c.args.cpu.now.body k x l y told.number ((told.gone.value ≡ c.args.gone.value) × (told.place.value ≡ c.args.made.value))
-    (λ i j s t. ReplaceIfaceCalls c.args.driver.name c.args.name.name c.args.value i j s t told.number c.args.gone.value told.gone.value c.args.made.value told.place.value) c.in-Some.ensures.value c.in-Some-body_mut.ensures.value valued
+pub replace_iface_by_name_in-answer-requires-clause-cpu : goal.replace_iface_by_name_in-answer-requires-clause-cpu
+replace_iface_by_name_in-answer-requires-clause-cpu c =
+    let one = c.requires c.in-Some.k.now c.in-Some-body_mut.c.now c.in-Some.ensures.value c.in-Some-body_mut.ensures.value in
+    let same : c.c.inside.cpu.words ≡ c.k.inside.keeper.words = ap (λ (o : OnPlainCpu). o.words) c.c.view_is ∙ (one ∙ sym (ap (λ (o : OnPlainKeeper). o.words) c.k.view_is)) in
+    subst (λ (w : Named). (c.deref.result.now.table ≡ w.table) × (c.deref.result.now.settings ≡ w.settings)) (sym same) (search rules)

@@ -11,7 +11,7 @@ pub count_add-word-requires-clause-place : goal.count_add-word-requires-clause-p
 count_add-word-requires-clause-place c =
     let may = may_acquire _ _ _ _ c.cpu.invariant.is_shown c.cpu.invariant.found (ap (λ (o : OnPlainCpu). o.cpu.view) c.cpu.view_is) c.why_not_acquired_local.ensures c.in_default.not-Some in
     let same = ap (λ (o : OnPlainCpu). o.words.settings) c.cpu.view_is ∙ sym c.requires.words.1 in
-    (subst (λ (z : Settings). c.cpu.inside.id < z.cpus) same c.cpu.invariant.few, subst (λ (z : Settings). c.cpu.inside.found.slot < z.slots) same may.kept.within)
+    (subst (λ (z : Settings). c.cpu.inside.row.cpu < z.cpus) same c.cpu.invariant.few, subst (λ (z : Settings). c.cpu.inside.found.slot < z.slots) same may.kept.within)
 
 pub count_add-word-requires-clause-may : goal.count_add-word-requires-clause-may
 count_add-word-requires-clause-may c =

@@ -1,9 +1,7 @@
-use Rattle.std.proofs.Common.{◌≡◌, ℕ, ◌<◌}
-use mathlib.Core.Option.{some}
-use lib.ListN.{get_elem?}
-use Rattle.passive_list.specs.Common.{OnCpu}
+use Rattle.std.proofs.Common.{◌≡◌, ◌<◌, ℕ, map}
+use Rattle.name_registry.proofs.Lent.{IsHere}
 use Rattle.name_registry.proofs.auditing.are_all.Given as goal
 
--- those so far have their numbers
+-- those so far are here, and all are as before
 abbrev pub invariant-loop-c : goal.invariant-loop-c
-invariant-loop-c g l = (k : ℕ) (x : OnCpu) → k < l.c → get_elem? l.cpus k ≡ some x → x.view.id ≡ k
+invariant-loop-c g l = (l.cpus ≡ l.fn.cpus) × ((k : ℕ) → k < l.c → IsHere (map g.C.ReachesCpu.table l.fn.cpus) (map g.C.ReachesCpu.cpu l.fn.cpus) k)

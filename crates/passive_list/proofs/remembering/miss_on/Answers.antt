@@ -11,5 +11,5 @@ invariant_of-cpu c =
     let key = key_with c.args.kind c.args.name in
     let was = subst (λ (o : OnPlainCpu). WasAbsent o.cpu.view.pass key c.args.number) (sym c.cpu.view_is) c.requires in
     let i = c.cpu.inside in
-    subst (λ (m : Memory). IsOurCpu i.seat.table i.seat.view.settings i.seat.table i.seat.view i.id i.ended i.depth i.found i.passive.items i.net.items m) (sym c.miss.ensures)
+    subst (λ (m : Memory). IsOurCpu i.seat.table i.seat.view.settings i.seat.table i.seat.view i.row i.ended i.depth i.found i.passive.items i.net.items m) (sym c.miss.ensures)
     (memory_agrees _ _ _ _ _ _ _ _ _ _ _ _ c.cpu.invariant (misses_more _ _ _ key _ c.cpu.invariant.memory was))

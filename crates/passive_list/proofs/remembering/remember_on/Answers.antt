@@ -15,7 +15,7 @@ invariant_of-cpu c =
     let seen : HasSeen c.args.cpu.now key s = subst (λ (o : Option Seen). IfSome o (λ (r : Seen). HasSeen c.args.cpu.now key r)) c.in-Some.is c.requires in
     let here = subst (λ (o : OnPlainCpu). HasSeen o key s) (sym c.cpu.view_is) seen in
     let i = c.cpu.inside in
-    subst (λ (m : Memory). IsOurCpu i.seat.table i.seat.view.settings i.seat.table i.seat.view i.id i.ended i.depth i.found i.passive.items i.net.items m) (sym c.remember.ensures)
+    subst (λ (m : Memory). IsOurCpu i.seat.table i.seat.view.settings i.seat.table i.seat.view i.row i.ended i.depth i.found i.passive.items i.net.items m) (sym c.remember.ensures)
     (memory_agrees _ _ _ _ _ _ _ _ _ _ _ _ c.cpu.invariant (remembers_more _ _ _ key s c.cpu.invariant.memory here.slots here.attached))
 
 pub returns-in-Some-clause-remembers : goal.returns-in-Some-clause-remembers

@@ -47,11 +47,11 @@ on : (g : Over) (c : After-go_by-entry g) → IsGoingOver c.args.seat.now.view c
 on g c = on_slot _ _ _ _ c.loop-link-test.true c.loop-link.invariant.met.2
 
 room : (g : Over) (c : After-go_by-entry g) → c.loop-link.count < MOST_SLOTS
-room g c = omega (arith, room_for_next _ _ _ _ _ _ (on g c) c.go_by-entry.ensures.change, c.loop-link.invariant.met.1)
+room g c = omega (arith, room_for_next _ _ _ _ _ _ (on g c) c.go_by-entry.ensures.change.3, c.loop-link.invariant.met.1)
 
 pub load_link-link-requires-clause-cpu : goal.load_link-link-requires-clause-cpu
 load_link-link-requires-clause-cpu g c =
-    (c.requires.cpu.0, ap (λ (v : CpuView). v.id) (gone_by_there _ _ _ _ _ _ (on g (goal.at.load_link-link-requires-clause-cpu g c).After-go_by-entry) c.go_by-entry.ensures.change).is ∙ c.loop-link.invariant.cpu)
+    (c.requires.cpu.0, ap (λ (v : CpuView). v.id) (gone_by_there _ _ _ _ _ _ (on g (goal.at.load_link-link-requires-clause-cpu g c).After-go_by-entry) c.go_by-entry.ensures.change.3).is ∙ c.loop-link.invariant.cpu)
 
 pub load_link-link-requires-clause-slot : goal.load_link-link-requires-clause-slot
 load_link-link-requires-clause-slot g c =
@@ -59,7 +59,7 @@ load_link-link-requires-clause-slot g c =
     (omega (arith, c.loop-link-test.true), omega (arith, within), omega (arith, within, ap (λ (z : Settings). z.slots) c.requires.settings))
 
 pub load_link-link-requires-clause-may : goal.load_link-link-requires-clause-may
-load_link-link-requires-clause-may g c = may_go_on _ _ _ _ _ _ (on g (goal.at.load_link-link-requires-clause-may g c).After-go_by-entry) c.go_by-entry.ensures.change
+load_link-link-requires-clause-may g c = may_go_on _ _ _ _ _ _ (on g (goal.at.load_link-link-requires-clause-may g c).After-go_by-entry) c.go_by-entry.ensures.change.3
 
 pub loop-link-smaller : goal.loop-link-smaller
 loop-link-smaller g c =
@@ -72,9 +72,11 @@ loop-link-preserved g c =
     let w = c.load_link-link.new.seat.view in
     let row = c.loop-link.row in
     let had = c.loop-link.invariant.met in
-    let e : Entry = c.go_by-entry.result in
+    let there = c.go_by-entry.ensures.change in
+    let e : Entry = there.0 in
+    let written = c.write_at.ensures e (there.1) there.2 in
     let few = room g v in
-    let more = goes_by_next x _ _ w had.0 _ c.load_link-link.result e (on g v) c.go_by-entry.ensures.change c.load_link-link.ensures.change in
+    let more = goes_by_next x _ _ w had.0 _ c.load_link-link.result e (on g v) c.go_by-entry.ensures.change.3 c.load_link-link.ensures.change in
     let put = one_more_written g.W.WritesEntry.written had.0 e c.args.row.now row c.loop-link.invariant.size had.3 in
     let size = length-append had.0 (e ∷ []) in
     record {
@@ -85,12 +87,12 @@ loop-link-preserved g c =
       log = one_gone_by c.args.cpu c.loop-link.count _ _ _ _ _ c.loop-link.invariant.log c.go_by-entry.ensures.log c.load_link-link.ensures.step.log;
       ends = (c.go_by-entry.new.seat.log, c.load_link-link.ensures.step.log);
       few = omega (arith, few);
-      size = ap length c.write_at.ensures ∙ length-set row c.loop-link.count (g.W.WritesEntry.written e) ∙ c.loop-link.invariant.size;
+      size = ap length written ∙ length-set row c.loop-link.count (g.W.WritesEntry.written e) ∙ c.loop-link.invariant.size;
       met = (
         had.0 ++ e ∷ [],
         omega (arith, size, had.1),
         more,
-        subst (λ r. IsWritten g.W.WritesEntry.written (had.0 ++ e ∷ []) c.args.row.now r) (ap (λ n. set row n (g.W.WritesEntry.written e)) (sym had.1) ∙ sym c.write_at.ensures) put,
+        subst (λ r. IsWritten g.W.WritesEntry.written (had.0 ++ e ∷ []) c.args.row.now r) (ap (λ n. set row n (g.W.WritesEntry.written e)) (sym had.1) ∙ sym written) put,
       );
     }
 

@@ -1,4 +1,4 @@
--- Of a `Cpu`, by what is so of the `PlainCpu` in it.
+-- A `Cpu` walks as the `PlainCpu` in it does.
 use Rattle.std.proofs.Common.{◌≡◌, ◌≤◌, ℕ, length, take, sym, ap, ◌∙◌, subst, arith}
 use Rattle.passive_list.specs.Types.{Settings}
 use Rattle.passive_list.specs.Common.{OnCpu, OnPlainCpu, HasWalked}

@@ -22,7 +22,7 @@ returns-clause-walked g c =
     let b : OnCpu = record { view = y.view; depth = c.cpu.inside.depth; made = 0; memory = c.cpu.inside.memory; known_log = y.known_log; log = y.log } in
     let had = c.go_over-count.ensures.change in
     let log = subst (λ (i : ℕ). HasGoneOverBy i x.view.settings.slots (length had.0) x.log y.log) (sym c.cpu.invariant.id)
-    (subst (λ (n : ℕ). HasGoneOverBy c.cpu.inside.id x.view.settings.slots n x.log y.log) had.1 c.go_over-count.ensures.log) in (
+    (subst (λ (n : ℕ). HasGoneOverBy c.cpu.inside.row.cpu x.view.settings.slots n x.log y.log) had.1 c.go_over-count.ensures.log) in (
       had.0,
       had.1,
       subst (λ (v : OnPlainCpu). HasWalked v.cpu b had.0) c.cpu.view_is

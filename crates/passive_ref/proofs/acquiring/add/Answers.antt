@@ -27,10 +27,10 @@ returns-clause-answer c =
     let had = c.passive_add.ensures.change in
     let e : Entry = had.0 in
     let number : n ≡ e.number = sym had.1.number in
-    let id : k.id ≡ x.id = sym c.cpu.invariant.id in
+    let id : k.row.cpu ≡ x.id = sym c.cpu.invariant.id in
     let a : OnCpu = record { view = x; depth = k.depth; made = 0; memory = k.memory; known_log = k.seat.known_log; log = k.seat.log } in
     let b : OnCpu = record { view = s.view; depth = k.depth; made = 0; memory = k.memory; known_log = s.known_log; log = s.log } in
-    let p : OnPsref = record { cpu = k.id; number = n } in
+    let p : OnPsref = record { cpu = k.row.cpu; number = n } in
     let count : c.passive_add.result ≡ references_to e.number x.references = c.passive_add.ensures.count ∙ ap (λ (m : ℕ). references_to m x.references) number in
     let log : s.log ≡ k.seat.log ++ did (PassiveAdd x.id e.number) (Word (references_to e.number x.references)) =
     c.passive_add.ensures.step.log ∙ (λ i. k.seat.log ++ did (PassiveAdd (id i) (number i)) (Word (count i))) in

@@ -20,7 +20,7 @@ invariant_of-cpu c =
     let agree = c.cpu.invariant.passive in
     let here = place_is i.passive.items c.args.slot _ c.index_mut.ensures.value (omega (arith, held.few, agree.size)) in
     let seat = c.passive_sub.new.seat in
-    subst (λ (p : NumberedCount). IsOurCpu seat.table seat.view.settings seat.table seat.view i.id i.ended i.depth i.found (set i.passive.items c.args.slot (record { number = p.number; count = p.count - 1 })) i.net.items i.memory) (sym here)
+    subst (λ (p : NumberedCount). IsOurCpu seat.table seat.view.settings seat.table seat.view i.row i.ended i.depth i.found (set i.passive.items c.args.slot (record { number = p.number; count = p.count - 1 })) i.net.items i.memory) (sym here)
     (own_agrees _ _ _ _ _ _ _ _ _ _ _ (less_agrees _ _ _ _ _ _ _ _ _ _ _ _ _ held.entry _ _ c.cpu.invariant c.passive_sub.ensures.step.table
     (step_is_shown c.passive_sub.ensures.step.event) held.at held.held c.passive_sub.ensures.change))
 

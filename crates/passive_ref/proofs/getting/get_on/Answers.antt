@@ -27,7 +27,7 @@ invariant_of-cpu c =
     let i = c.cpu.inside in
     let seat = c.try_on_seat-done.new.seat in
     let here = place_is i.passive.items c.args.slot _ c.index_mut.ensures.value (omega (arith, seen.slots, c.cpu.invariant.passive.size)) in
-    subst (λ (p : NumberedCount). IsOurCpu seat.table seat.view.settings seat.table seat.view i.id i.ended i.depth i.found (set i.passive.items c.args.slot p) i.net.items i.memory) (sym c.count_one.ensures)
+    subst (λ (p : NumberedCount). IsOurCpu seat.table seat.view.settings seat.table seat.view i.row i.ended i.depth i.found (set i.passive.items c.args.slot p) i.net.items i.memory) (sym c.count_one.ensures)
     (taken_agrees _ _ _ _ _ _ _ _ _ _ _ _ _ _ _ _ c.cpu.invariant c.try_on_seat-done.ensures.is_shown c.try_on_seat-done.ensures.table seen.slots had.0 (ap (counted_for c.args.number) here))
 
 pub invariant_of-cpu-else-done : goal.invariant_of-cpu-else-done

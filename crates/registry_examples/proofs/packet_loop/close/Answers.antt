@@ -30,6 +30,6 @@ returns-clause-ran g c =
     ap (λ (ys : List OnCpu). get_elem? ys (length c.args.carriers.items)) are ∙ at_last c.args.carriers.items x (length c.args.carriers.items) refl in
     let whole = (run.each (length c.args.carriers.items) x among).whole in
     let all : length xs ≡ g.D.Ledger.parts = ap (λ (ys : List OnCpu). length ys) are ∙ (length-append c.args.carriers.items (x ∷ []) ∙ c.requires.all) in
-    λ n accounts few.
+    λ n packets accounts few searched.
     let same = sym c.close_all.ensures.settings in
-    subst (λ (z : Settings). HasFreed z last.words n) same (has_freed g.D.Domain.settings g.D.Ledger.parts c.args.carriers.items xs x last.words n are all run whole.known whole.seen c.requires.others accounts few)
+    subst (λ (z : Settings). HasFreed z last.words n packets) same (has_freed g.D.Domain.settings g.D.Ledger.parts c.args.carriers.items xs x last.words n packets are all run whole.known whole.seen c.requires.others accounts few searched)

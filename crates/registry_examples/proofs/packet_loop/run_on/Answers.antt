@@ -21,5 +21,5 @@ returns g c =
     let ran = c.in_ok-sum.ensures in
     let gone = c.in_ok-driver.ensures in
     record {
-      ran = freed_besides last.settings last.words c.in_ok-sum.sum.freed c.in-Some.cpu c.in_ok-sum.cpu c.unload_driver.new.cpu new.1 ran.made gone.made ran.freed gone.freed c.in_ok-close.ensures.ran;
+      ran = freed_besides last.settings last.words c.in_ok-sum.sum.freed c.in_ok-sum.sum.counted c.in_ok-sum.carriers.items c.in-Some.cpu c.in_ok-sum.cpu c.unload_driver.new.cpu new.1 ran.made gone.made ran.freed gone.freed ran.counted c.in_ok-close.ensures.ran;
     }

@@ -7,5 +7,5 @@ add-requires-clause-may c = rw c.passive_place-word.ensures.place (add_may _ _ _
 
 pub returns : goal.returns
 returns c =
-    let told = c.add.ensures.told.1 c.args.cpu c.args.slot c.args.number refl c.passive_place-word.ensures.place in
+    let told = c.add.ensures.told.1 c.args.row.cpu c.args.slot c.args.number refl c.passive_place-word.ensures.place in
     record { step = search rules; change = told.0; slot = told.1; count = told.2; alone = told.3 }

@@ -7,5 +7,5 @@ subtract-requires-clause-may c = rw c.passive_place-word.ensures.place (sub_may 
 
 pub returns : goal.returns
 returns c =
-    let told = c.subtract.ensures.told.1 c.args.cpu c.args.slot c.args.number refl c.passive_place-word.ensures.place in
+    let told = c.subtract.ensures.told.1 c.args.row.cpu c.args.slot c.args.number refl c.passive_place-word.ensures.place in
     record { step = search rules; change = told.0; count = told.1; alone = told.2 }

@@ -1,7 +1,0 @@
-use Rattle.std.proofs.Common.{◌≡◌}
-use Rattle.c_calls.specs.Audits.{occupied}
-use Rattle.c_calls.proofs.audit.count_entries.Given as goal
-
--- the entries of the slots so far are counted
-abbrev pub invariant-loop-t : goal.invariant-loop-t
-invariant-loop-t l = l.count ≡ occupied l.keeper.keeper l.t
