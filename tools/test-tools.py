@@ -182,7 +182,8 @@ def main():
     words = sys.argv[1:]
     chosen = [it for it in CASES if not words or any(word in it.name for word in words)]
     with tempfile.TemporaryDirectory() as folder, ThreadPoolExecutor(processors()) as pool:
-        # All is written before anything runs: a process that another thread starts meanwhile has the file open, too, and what is open for writing can't be run.
+        # All is written before anything runs. What is open for writing can't be run, and a process
+        # that another thread starts meanwhile has it open, too, until it is another program.
         return counted(pool.map(run, list(jobs(chosen, pathlib.Path(folder)))))
 
 

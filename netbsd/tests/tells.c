@@ -211,7 +211,10 @@ static void *hold_one(void *of)
 	return of;
 }
 
-/* The first wait of the destroy is that for references. Those for CPUs come later, and are told only of one that is kept. */
+/*
+ * The first wait of the destroy is that for references. Those for CPUs come later, and are told
+ * only of one that is kept.
+ */
 static void destroy_beside(struct holder *holders, unsigned all)
 {
 	psref_target_init(&next, things);

@@ -329,8 +329,9 @@ static unsigned take_before(void)
 }
 
 /*
- * A lock is free when it is given back, though another thread waits for it: this thread takes it again, once it isn't kept from its processor just then. If
- * others were before that one often enough it is passed to it.
+ * A lock is free when it is given back, though another thread waits for it: this thread takes it
+ * again, once it isn't kept from its processor just then. If others were before that one often
+ * enough it is passed to it.
  */
 static void test_passed(void)
 {

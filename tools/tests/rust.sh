@@ -4,7 +4,8 @@
 out=$PWD/out
 limits=${header%.h}_limits.h
 
-# cargo_watched WORD..: the crate's tests, where each call is watched, in a folder of their own: so no test of cargo's with other flags builds anew what runs.
+# cargo_watched WORD..: the crate's tests, where each call is watched, in a folder of their own: so
+# no test of cargo's with other flags builds anew what runs.
 cargo_watched() {
     cd rust && CARGO_TARGET_DIR=$CARGO_TARGET_DIR/watched RUSTFLAGS=$(tests/watching.sh) cargo test --offline --test '*' "$@"
 }
