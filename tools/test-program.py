@@ -209,8 +209,8 @@ def with_refused_memory(program):
 
 
 def without_threads(program):
-    """An address space with room for the program, and none for the stack of a thread."""
-    found = said("sh", ["-c", 'ulimit -v 10000; exec "$@"', "sh", program, "storm", "2", "1"], stdout=subprocess.PIPE)
+    """An address space with room for the program, and none for the stack of a thread, whose size is set here, too."""
+    found = said("sh", ["-c", 'ulimit -s 8192; ulimit -v 10000; exec "$@"', "sh", program, "storm", "2", "1"], stdout=subprocess.PIPE)
     yield judged("storm, no room for a thread", (4, b"", b"no thread\n"), found)
 
 

@@ -50,7 +50,7 @@ enable_testing()
 add_test(NAME first COMMAND ${CMAKE_SOURCE_DIR}/counted.sh ../../one)
 add_test(NAME second COMMAND ${CMAKE_SOURCE_DIR}/../../two)
 set_tests_properties(first PROPERTIES LABELS some FIXTURES_SETUP one)
-set_tests_properties(second PROPERTIES LABELS some FIXTURES_REQUIRED one TIMEOUT 2)
+set_tests_properties(second PROPERTIES LABELS some FIXTURES_REQUIRED one)
 """
 ALL = "tools/tests/CMakeLists.txt"
 RUNS = Case("run-tests", ["run-tests.py", "checks.py", "packages.py", "tests/counted.sh"], {ALL: LIST, "one": PASSES, "two": "#!/bin/sh\nexit 0\n"},
@@ -58,7 +58,9 @@ RUNS = Case("run-tests", ["run-tests.py", "checks.py", "packages.py", "tests/cou
     # The second test isn't run then, and that is a failure, too.
     *wrong_counts("one", "2 passed, 2 failed", "0 passed, 2 failed"),
     *of("one", ("another status", "3 passed, 2 failed", "0 failed\n", "0 failed\nexit 2\n")),
-    *of("two", ("a test that fails", "3 passed, 1 failed", "exit 0", "exit 1"), ("a test that waits for ever", "3 passed, 1 failed", "exit 0", "sleep 600")),
+    *of("two", ("a test that fails", "3 passed, 1 failed", "exit 0", "exit 1")),
+    # This one alone has a limit in time: a busy machine lets no other test meet it.
+    Fault("a test that waits for ever", "3 passed, 1 failed", (("two", "exit 0", "sleep 600"), (ALL, "REQUIRED one)", "REQUIRED one TIMEOUT 2)"))),
     *of(ALL, ("a program that is missing", "3 passed, 1 failed", "../../two", "../../three"), ("no tests", "0 passed, 1 failed", LIST, LIST.replace("LABELS some", "LABELS other")),
         ("a list that can't be read", "0 passed, 1 failed", "enable_testing()", "enable_nothing()"))])
 
@@ -141,8 +143,8 @@ def write(tree, path, text):
         file.chmod(0o755)
 
 
-def wrong_with(case, fault, tree):
-    """What is wrong with what the tool says of the good tree, or of the fault, if anything is."""
+def laid_out(case, fault, tree):
+    """Writes the good tree, or that with the fault; what is wrong with the fault's changes, if anything is."""
     for name in case.tools:
         write(tree, f"tools/{name}", (ROOT / "tools" / name).read_text())
     for path, text in case.tree.items():
@@ -152,6 +154,11 @@ def wrong_with(case, fault, tree):
         if text.count(old) != 1:
             return f"{path} has {text.count(old)} times: {old}"
         write(tree, path, text.replace(old, new))
+    return ""
+
+
+def wrong_with(case, fault, tree):
+    """What is wrong with what the tool says of the good tree, or of the fault, if anything is."""
     ran = subprocess.run(fault and fault.command or case.command, cwd=tree, stdin=subprocess.DEVNULL, stdout=subprocess.PIPE, stderr=subprocess.STDOUT, text=True)
     if fault is None:
         return "" if ran.returncode == 0 else f"status {ran.returncode}: {ran.stdout}"
@@ -159,17 +166,25 @@ def wrong_with(case, fault, tree):
 
 
 def run(job):
-    case, fault = job
-    with tempfile.TemporaryDirectory() as folder:
-        wrong = wrong_with(case, fault, pathlib.Path(folder))
+    case, fault, tree, unfit = job
+    wrong = unfit or wrong_with(case, fault, tree)
     return wrong and f"{case.name}: {fault.name if fault else 'the good tree'}: {wrong}"
+
+
+def jobs(cases, room):
+    """Each good tree and each fault, laid out in a folder of its own."""
+    for number, (case, fault) in enumerate((case, fault) for case in cases for fault in [None, *case.faults]):
+        tree = room / str(number)
+        yield case, fault, tree, laid_out(case, fault, tree)
 
 
 def main():
     words = sys.argv[1:]
     chosen = [it for it in CASES if not words or any(word in it.name for word in words)]
-    with ThreadPoolExecutor(processors()) as pool:
-        return counted(pool.map(run, [(case, fault) for case in chosen for fault in [None, *case.faults]]))
+    with tempfile.TemporaryDirectory() as folder, ThreadPoolExecutor(processors()) as pool:
+        # All is written before anything runs. What is open for writing can't be run, and a process
+        # that another thread starts meanwhile has it open, too, until it is another program.
+        return counted(pool.map(run, list(jobs(chosen, pathlib.Path(folder)))))
 
 
 if __name__ == "__main__":

@@ -105,18 +105,34 @@ static void remove_entry(struct worker *worker, const struct kupaldiz_entry *gon
 	DONE(kupaldiz_table_defer(&worker->thread, gone));
 }
 
+/*
+ * Whether the name's registry is full, or the table, of what was removed while a thread is in a
+ * section: a busy machine may keep one there for long. Then it waits for the section.
+ */
+static bool is_full(struct worker *worker, enum kupaldiz_result result)
+{
+	if (result != KUPALDIZ_CROWDED && result != KUPALDIZ_NO_SLOT)
+		return false;
+	DONE(kupaldiz_table_perform(&worker->thread, NULL, NULL));
+	return true;
+}
+
 static bool attach(struct worker *worker)
 {
 	const uint64_t id = own_id(worker);
 	const struct kupaldiz_name name = id_name(id);
 	struct kupaldiz_entry entry;
+	enum kupaldiz_result result;
 	if (map[id] != NULL) {
 		IS(NAME_TAKEN, kupaldiz_table_attach(&worker->thread, &name, 1, &entry));
 		return false;
 	}
 	map[id] = make_object(id);
-	DONE(kupaldiz_table_attach(&worker->thread, &name, kupaldiz_value(map[id]), &entry));
-	EXPECT(entry.pointer == map[id]);
+	do
+		result = kupaldiz_table_attach(&worker->thread, &name, kupaldiz_value(map[id]),
+		    &entry);
+	while (is_full(worker, result));
+	EXPECT(result == KUPALDIZ_DONE && entry.pointer == map[id]);
 	return true;
 }
 
@@ -130,8 +146,13 @@ static bool replace(struct worker *worker)
 		return false;
 	}
 	struct object *next = make_object(id);
-	DONE(kupaldiz_table_replace(&worker->thread, &name, kupaldiz_value(next), &gone, &entry));
-	EXPECT(gone.pointer == map[id] && entry.pointer == next && entry.number > gone.number);
+	enum kupaldiz_result result;
+	do
+		result = kupaldiz_table_replace(&worker->thread, &name, kupaldiz_value(next), &gone,
+		    &entry);
+	while (is_full(worker, result));
+	EXPECT(result == KUPALDIZ_DONE && gone.pointer == map[id] && entry.pointer == next);
+	EXPECT(entry.number > gone.number);
 	map[id] = next;
 	remove_entry(worker, &gone);
 	return true;

@@ -44,6 +44,12 @@ static inline void sleep_for(long microseconds)
 	delay((unsigned)microseconds);
 }
 
+/* Time goes on where no thread can, so this is longer than any case. */
+static inline void stay_here(void)
+{
+	sleep_for(20000000);
+}
+
 static inline void end_thread(pthread_t thread)
 {
 	while (!started[thread].ended)

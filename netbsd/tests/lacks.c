@@ -73,7 +73,7 @@ ENDS("callout_init: out of memory", open_without(CALLOC); callout_init(&callout,
 /* The clock's thread begins the soft interrupts of a CPU, for a callout that is due there. */
 ENDS("callout: no thread is left",
     open_without(NOTHING_LACKS); callout_init(&callout, CALLOUT_MPSAFE); lacks = THREADS; callout_reset(&callout, 1, nothing, NULL);
-    sleep_for(20000000))
+    stay_here())
 
 static void require_no_memory(void)
 {

@@ -1,4 +1,6 @@
 /* misuses - what the manual pages forbid and a call sees: each case ends its process with its line. The explorer runs them, too. */
+#include <limits.h>
+
 #include "stops.h"
 #include "things.h"
 
@@ -128,7 +130,7 @@ HANDLER(stay_spinning, mutex_enter(&spin))
 HANDLER(stay_bound, kpreempt_disable())
 HANDLER(stay_raised, splnet())
 HANDLER(stay_holding, psref_acquire(&psref, &target, things))
-HANDLER(stay_long, sleep_for(20000000))
+HANDLER(stay_long, stay_here())
 HANDLER(exit_at_once, kthread_exit(0))
 HANDLER(perform_there, pserialize_perform(psz))
 static void function_stays_holding(void *arg, void *nobody) { (void)nobody; stay_holding(arg); }
@@ -269,7 +271,7 @@ ENDS("psref_release: the reference was moved by its bytes: it was acquired elsew
 
 /* ---- localcount(9). ---- */
 
-THREAD(keep_lock, mutex_enter(&lock); atomic_store(&ready, true); sleep_for(20000000))
+THREAD(keep_lock, mutex_enter(&lock); atomic_store(&ready, true); stay_here())
 STOPS("localcount_drain: the count is not live", drain_count(); mutex_enter(&lock); localcount_drain(&count, &cv, &lock))
 STOPS("localcount_drain: another thread waits for it already", count_in(); on_two_threads(drain_beside))
 STOPS("localcount_drain: the thread does not have the interlock", count_in(); start(keep_lock); localcount_drain(&count, &cv, &lock))
@@ -359,8 +361,8 @@ STOPS("panic: the wait ended",
 
 /* ---- rwlock(9). ---- */
 
-THREAD(write_it, rw_enter(&rw, RW_WRITER); atomic_store(&ready, true); sleep_for(20000000))
-THREAD(read_it, rw_enter(&rw, RW_READER); atomic_store(&ready, true); sleep_for(20000000))
+THREAD(write_it, rw_enter(&rw, RW_WRITER); atomic_store(&ready, true); stay_here())
+THREAD(read_it, rw_enter(&rw, RW_READER); atomic_store(&ready, true); stay_here())
 STOPS("rw_enter: inside a read section, entered at PLACE", pserialize_read_enter(); rw_enter(&rw, RW_READER))
 STOPS("rw_exit: nobody has the lock", rw_exit(&rw))
 STOPS("rw_exit: another thread has the lock as its writer", start(write_it); rw_exit(&rw))
@@ -410,7 +412,7 @@ STOPS("callout_halt: inside a read section, entered at PLACE",
     run_callout(stay_long); pserialize_read_enter(); callout_halt(&callout, NULL))
 /* It has no need to wait. */
 STOPS("callout_halt: the thread does not have the lock", callout_halt(&callout, &lock))
-STOPS("callout_destroy: the callout is pending", callout_reset(&callout, 1000, nothing, NULL); callout_destroy(&callout))
+STOPS("callout_destroy: the callout is pending", callout_reset(&callout, INT_MAX, nothing, NULL); callout_destroy(&callout))
 ENDS("callout_schedule: the callout has no function", callout_schedule(&callout, 1))
 ENDS("xc_wait: no such call", xc_wait(0))
 /* The first call of all was there, and the third one wasn't. */
@@ -425,7 +427,7 @@ static struct work first_work, second_work;
 
 #define WORK(name, ...)	static void name(struct work *work, void *arg) { (void)work; (void)arg; __VA_ARGS__; }
 
-WORK(work_long, sleep_for(20000000))
+WORK(work_long, stay_here())
 WORK(work_raised, splsoftnet())
 WORK(work_locked, mutex_enter(&softlock))
 WORK(destroy_own_queue, workqueue_destroy(queue))
@@ -447,9 +449,9 @@ STOPS("workqueue_wait: inside a read section, entered at PLACE",
     enqueue(work_long); pserialize_read_enter(); workqueue_wait(queue, &first_work))
 STOPS("workqueue_destroy: a work is enqueued",
     enqueue(work_long); workqueue_enqueue(queue, &second_work, NULL); workqueue_destroy(queue))
-STOPS("workqueue_destroy: in a function of the queue", enqueue(destroy_own_queue); sleep_for(20000000))
-ENDS("workqueue: the function returned at a raised level", enqueue(work_raised); sleep_for(20000000))
-ENDS("workqueue: the function returned with a lock", enqueue(work_locked); sleep_for(20000000))
+STOPS("workqueue_destroy: in a function of the queue", enqueue(destroy_own_queue); stay_here())
+ENDS("workqueue: the function returned at a raised level", enqueue(work_raised); stay_here())
+ENDS("workqueue: the function returned with a lock", enqueue(work_locked); stay_here())
 
 MODULE_HOOK(no_hook, void, (void *));
 struct no_hook_t no_hook;

@@ -104,7 +104,7 @@ ENDS("kthread_join: no thread that was made with KTHREAD_MUSTJOIN, at the second
 /* A soft interrupt whose end waits for its handler isn't established any more. */
 static void *cookie;
 static atomic_bool runs;
-HANDLER(run_long, atomic_store(&runs, true); sleep_for(20000000))
+HANDLER(run_long, atomic_store(&runs, true); stay_here())
 /* Schedules itself, which takes no other CPU. */
 HANDLER(run_again,
     atomic_store(&runs, true);
@@ -169,7 +169,7 @@ ENDS("KASSERT: No space left on device", is_full = true; kupaldiz_failed("KASSER
 
 static atomic_bool ready;
 
-HANDLER(keep_lock, mutex_enter(&lock); atomic_store(&ready, true); sleep_for(20000000))
+HANDLER(keep_lock, mutex_enter(&lock); atomic_store(&ready, true); stay_here())
 THREAD(name_and_keep, EXPECT(prctl(PR_SET_NAME, arg) == 0); keep_lock(NULL))
 static void destroy_taken(void) { await_flag(&ready); mutex_destroy(&lock); }
 

@@ -1,6 +1,6 @@
 /*
  * tells - a wait that lasts says who it waits for, once, by one line: over a layer of little patience. What is waited for ends once the line was written: the
- * linker leads write here (--wrap), and open.
+ * linker leads write here (--wrap), and open and clock_gettime.
  */
 #include <sys/prctl.h>
 
@@ -12,15 +12,33 @@
 
 #include "src/layer.h"
 
+enum { PATIENCE = 300 };	/* in milliseconds */
+
 static kmutex_t spin;
 static krwlock_t rw;
 static atomic_bool ready, told;
 
+/* From now on no wait that begins is told, however long a busy machine makes it. */
+static void be_patient(void) { __atomic_store_n(&patience_milliseconds, INT64_C(1) << 32, __ATOMIC_SEQ_CST); }
+
 ssize_t __wrap_write(int file, const void *bytes, size_t length)
 {
 	ssize_t written = __real_write(file, bytes, length);
+	be_patient();
 	atomic_store(&told, true);
 	return written;
+}
+
+/* Whether the wait that this thread begins next is the only one that is told. */
+static _Thread_local bool tells_next;
+
+WRAP(int, clock_gettime, clockid_t clock, struct timespec *time);
+int __wrap_clock_gettime(clockid_t clock, struct timespec *time)
+{
+	if (tells_next)
+		be_patient();
+	tells_next = false;
+	return __real_clock_gettime(clock, time);
 }
 
 static int64_t milliseconds(void)
@@ -30,26 +48,19 @@ static int64_t milliseconds(void)
 	return (int64_t)now.tv_sec * 1000 + now.tv_nsec / 1000000;
 }
 
-static void await(atomic_bool *what)
-{
-	for (unsigned turn = 0; turn < 60000 && !atomic_load(what); turn++)
-		sleep_for(1000);
-	EXPECT(atomic_load(what));
-}
-
 /* It has it now, and keeps it until the line was written, which isn't soon, and somewhat longer: no second line follows. */
 static void keep(void)
 {
 	int64_t began = milliseconds();
 	atomic_store(&ready, true);
-	await(&told);
-	EXPECT(milliseconds() - began > patience_milliseconds / 2);
+	await_flag(&told);
+	EXPECT(milliseconds() - began >= PATIENCE);
 	sleep_for(20000);
 }
 
 static void begin(void)
 {
-	patience_milliseconds = 300;
+	patience_milliseconds = PATIENCE;
 	make_things(IPL_NONE);
 	mutex_init(&spin, MUTEX_DEFAULT, IPL_VM);
 	rw_init(&rw);
@@ -136,7 +147,7 @@ WAITS("callout_halt: waits for CPU 4, which runs it",
 HANDLER(exit_after_long, keep(); kthread_exit(0))
 WAITS("kthread_join: waits for thread \"worker\" to end",
     lwp_t *worker; EXPECT(kthread_create(PRI_NONE, KTHREAD_MUSTJOIN, NULL, exit_after_long, NULL, &worker, "worker") == 0);
-    EXPECT(kthread_join(worker) == 0))
+    await_flag(&ready); EXPECT(kthread_join(worker) == 0))
 
 /* ---- How psref_target_destroy finds the reference that it waits for, in the tables of CPUs that other threads have. ---- */
 
@@ -193,13 +204,17 @@ static void *hold_one(void *of)
 		sleep_for(2000);
 	}
 	atomic_store(&holder->holds, true);
-	await(&told);
+	await_flag(&told);
 	if (holder->refers)
 		psref_release(&held, &target, things);
 	psref_release(&other, &next, things);
 	return of;
 }
 
+/*
+ * The first wait of the destroy is that for references. Those for CPUs come later, and are told
+ * only of one that is kept.
+ */
 static void destroy_beside(struct holder *holders, unsigned all)
 {
 	psref_target_init(&next, things);
@@ -207,6 +222,7 @@ static void destroy_beside(struct holder *holders, unsigned all)
 		start_thread(&holders[at].thread, hold_one, &holders[at]);
 		await_flag(&holders[at].holds);
 	}
+	tells_next = holders->cpu_is != KEEPS;
 	psref_target_destroy(&target, things);
 	for (unsigned at = 0; at < all; at++)
 		end_thread(holders[at].thread);

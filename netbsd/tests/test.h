@@ -11,6 +11,7 @@
 #include <stdlib.h>
 #include <string.h>
 #include <time.h>
+#include <unistd.h>
 
 #include "../../c/examples/expect.h"
 #include "bodies.h"
@@ -19,6 +20,13 @@ static inline void sleep_for(long microseconds)
 {
 	const struct timespec time = {microseconds / 1000000, microseconds % 1000000 * 1000};
 	nanosleep(&time, NULL);
+}
+
+/* For ever: what a case needs of a thread doesn't end before the case does. */
+static inline void stay_here(void)
+{
+	for (;;)
+		pause();
 }
 
 static inline void await_flag(atomic_bool *flag)

@@ -351,9 +351,7 @@ static void test_halted(void)
 	start_thread(&thread, halt_beside, NULL);
 	end_thread(thread);
 	callout_reset(&periodic, 1, beat, NULL);
-	for (unsigned turn = 0; turn < 2000 && atomic_load(&beats) < 3; turn++)
-		sleep_for(10000);
-	EXPECT(atomic_load(&beats) >= 3);
+	await_least(&beats, 3);
 	callout_halt(&periodic, NULL);
 	callout_destroy(&periodic);
 	callout_destroy(&long_one);

@@ -10,7 +10,7 @@ use std::ffi::{c_void, CString};
 use std::mem;
 use std::os::raw::{c_char, c_int};
 use std::sync::atomic::{AtomicBool, AtomicU32, Ordering};
-use std::thread;
+use std::thread::{self, ScopedJoinHandle};
 
 extern "C" {
     fn dlopen(path: *const c_char, flags: c_int) -> *mut c_void;
@@ -59,6 +59,16 @@ enum Plugin {
     Function(extern "C" fn(f64) -> f64, AtomicU32),
 }
 
+impl Plugin {
+    /// How often the function was called.
+    fn calls(&self) -> u32 {
+        match self {
+            Plugin::Library(_) => 0,
+            Plugin::Function(_, calls) => calls.load(Ordering::Relaxed),
+        }
+    }
+}
+
 /// Calls the function that is there. One always is, also while it is replaced.
 fn work(host: &Registry<Plugin>, stop: &AtomicBool) -> Result<(), RegistryError> {
     while !stop.load(Ordering::Relaxed) {
@@ -68,6 +78,18 @@ fn work(host: &Registry<Plugin>, stop: &AtomicBool) -> Result<(), RegistryError>
             assert!(wave(1.0).abs() <= 1.0 && !UNLOADED.load(Ordering::SeqCst));
             calls.fetch_add(1, Ordering::Relaxed);
         }
+    }
+    Ok(())
+}
+
+/// Waits until a worker has called the function that is there, or none is left.
+fn wait_for_call(
+    host: &Registry<Plugin>,
+    workers: &[ScopedJoinHandle<'_, Result<(), RegistryError>>],
+) -> Result<(), RegistryError> {
+    let plugin = host.get((Kind::Iface, "wave"))?;
+    while plugin.calls() == 0 && !workers.iter().all(|worker| worker.is_finished()) {
+        thread::yield_now();
     }
     Ok(())
 }
@@ -83,15 +105,15 @@ fn main() -> Result<(), Box<dyn Error>> {
     let stop = AtomicBool::new(false);
     let replaced = thread::scope(|scope| {
         let workers: Vec<_> = (0..3).map(|_| scope.spawn(|| work(&host, &stop))).collect();
-        thread::sleep(std::time::Duration::from_millis(5));
+        wait_for_call(&host, &workers)?;
         let (_, old) = host.replace_iface("libm", "wave", second)?;
         let old = old.destroy(Patience::Forever)?.value; // nobody calls it any more
-        thread::sleep(std::time::Duration::from_millis(5));
+        wait_for_call(&host, &workers)?;
         stop.store(true, Ordering::Relaxed);
         workers.into_iter().try_for_each(|worker| worker.join().expect("no panic"))?;
         Ok::<_, RegistryError>(old)
     })?;
-    assert!(matches!(&replaced, Plugin::Function(_, calls) if calls.load(Ordering::Relaxed) > 0));
+    assert!(replaced.calls() > 0 && host.get((Kind::Iface, "wave"))?.calls() > 0);
 
     let library = host.detach("libm")?.destroy(Patience::Turns(1)).unwrap_err();
     println!("the library stays: {library}");

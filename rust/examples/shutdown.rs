@@ -3,7 +3,7 @@
 
 use kupaldiz::{LocalRef, Name, Patience, Registry, Settings};
 use std::error::Error;
-use std::sync::mpsc::{channel, sync_channel, Receiver, SyncSender};
+use std::sync::mpsc::{channel, sync_channel, Receiver, Sender, SyncSender};
 use std::thread;
 use std::time::{Duration, Instant};
 
@@ -22,9 +22,10 @@ impl Drop for Device {
     }
 }
 
-/// Uses a device until the job ends.
-fn work(device: LocalRef<Device>, end: &Receiver<()>) {
+/// Uses a device until the job ends, and says that it has begun.
+fn work(device: LocalRef<Device>, begin: &Sender<()>, end: &Receiver<()>) {
     LocalRef::note_here(&device);
+    begin.send(()).expect("the program waits");
     let _ = end.recv();
     assert_eq!(device.name, DEVICES[1]);
 }
@@ -39,10 +40,7 @@ fn main() -> Result<(), Box<dyn Error>> {
     drop(written);
     let (device, (end, ended)) = (registry.get(DEVICES[1])?, channel());
     let (job, (begin, begun)) = (thread::Builder::new().name("job-1".to_string()), channel());
-    let worker = job.spawn(move || {
-        begin.send(()).expect("the program waits");
-        work(device, &ended);
-    })?;
+    let worker = job.spawn(move || work(device, &begin, &ended))?;
     begun.recv()?;
 
     let deadline = Instant::now() + Duration::from_millis(10);

@@ -290,7 +290,8 @@ mod tests {
         assert_eq!((lent.map(|cpu| cpu.id()), woken), (Some(0), 20));
     }
 
-    /// So a thread that is about to wait as the CPU comes back misses nothing.
+    /// So a thread that is about to wait as the CPU comes back misses nothing. Else it waits for
+    /// ever.
     #[test]
     fn a_cpu_is_in_its_pool_before_anybody_is_woken() {
         let (pool, (to, from)) = (&pool(), channel());
@@ -305,11 +306,9 @@ mod tests {
             let lent = pool.lend_by(Location::caller(), |state| {
                 let _ = to.send(());
                 thread::sleep(Duration::from_millis(20));
-                let (state, waited) =
-                    pool.returned.wait_timeout(state, Duration::from_secs(20)).unwrap();
-                (!waited.timed_out()).then_some(state)
+                Some(pool.returned.wait(state).unwrap())
             });
-            assert!(lent.is_some(), "nobody woke this thread");
+            assert_eq!(lent.map(|cpu| cpu.id()), Some(0));
         });
     }
 }

@@ -12,7 +12,6 @@ use std::rc::Rc;
 use std::sync::mpsc::channel;
 use std::sync::{Arc, Mutex};
 use std::thread;
-use std::time::Duration;
 
 /// Any of the handles keeps it open; a close waits for the others.
 #[test]
@@ -28,11 +27,12 @@ fn what_is_left_is_dropped_at_the_closing() {
     drop(cpus);
     held.check();
     assert_eq!(drops.dropped(), 0);
+    let closes = Waiter::here();
+    drop(dropped_here());
     let leaving = thread::spawn(move || {
-        thread::sleep(Duration::from_millis(5));
+        closes.waits();
         drop((held, retired));
     });
-    drop(dropped_here());
     registry.close(patience()).unwrap();
     leaving.join().unwrap();
     assert_eq!((drops.dropped(), dropped_here()), (2, vec![0]), "on the closing thread");

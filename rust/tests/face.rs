@@ -155,14 +155,15 @@ fn handles_may_be_closed_at_once() {
     for bound in [patience(), Patience::Forever] {
         let (registry, cpus) = with_driver(std::sync::Arc::new(7));
         let carried = std::sync::Arc::clone(&cpus[0].read(WM).unwrap());
-        let (to, from) = channel();
+        let ((to, from), (begin, begun)) = (channel(), channel());
         for registry in [registry.clone(), registry.clone(), registry] {
-            let (to, carried) = (to.clone(), std::sync::Arc::clone(&carried));
+            let (to, begin, carried) = (to.clone(), begin.clone(), carried.clone());
             thread::spawn(move || {
+                begin.send(Waiter::here()).unwrap();
                 to.send((registry.close(bound).is_ok(), std::sync::Arc::strong_count(&carried)))
             });
         }
-        thread::sleep(Duration::from_millis(5));
+        (0..3).for_each(|_| begun.recv().unwrap().waits());
         // What another handle keeps is open.
         let shortly = cpus[0].registry().close(Patience::Turns(3)).unwrap_err().given;
         assert!(shortly == cpus[1].registry());
@@ -367,15 +368,19 @@ fn a_wait_ends_once_the_reader_has_left() {
     ];
     for wait in ways {
         let (registry, mut cpus) = with_driver(7);
-        let (reader, (inside, is_inside)) = (cpus.remove(1), channel());
+        let (reader, (inside, is_inside), (begin, detached)) =
+            (cpus.remove(1), channel(), channel::<()>());
+        let waiter = Waiter::here();
         let reading = thread::spawn(move || {
             let guard = reader.read(WM).unwrap();
             inside.send(()).unwrap();
-            thread::sleep(Duration::from_millis(5));
+            let _ = detached.recv();
+            waiter.waits();
             *guard
         });
         is_inside.recv().unwrap();
         let retired = cpus[0].detach(WM).unwrap();
+        drop(begin);
         assert_eq!(
             (wait(&registry, &cpus[0], retired).unwrap().value, reading.join().unwrap()),
             (7, 7)

@@ -201,8 +201,9 @@ fn a_drain_frees_meanwhile_what_is_deferred() {
     cpus[0].attach_iface(WM, WM0, 8).unwrap();
     let held = cpus[0].get_local((Kind::Iface, WM0)).unwrap();
     cpus[0].detach((Kind::Iface, WM0)).unwrap().defer();
-    let leaving = thread::spawn(|| {
-        thread::sleep(Duration::from_millis(5));
+    let drains = Waiter::here();
+    let leaving = thread::spawn(move || {
+        drains.waits();
         drop(held);
     });
     let drained = registry.drain(patience()).unwrap();

@@ -47,9 +47,10 @@ run_without() {
     KUPALDIZ_WITHOUT="$1" run thread "--cfg kupaldiz_edges" --test together -- --skip all_cpus
 }
 
-# Whether runs without this edge come to a race of a value: with few changes not each does.
+# comes_to_race TEXT COMMAND..: whether runs come to a race that is told so: with few changes not
+# each does.
 comes_to_race() {
-    until run_without "$1"; grep -q 'data race.*Tracked' "$said"; do
+    until "${@:2}"; grep -q "data race$1" "$said"; do
         grep -qE 'data race|test result: ok' "$said" || return 1
     done
 }
@@ -59,17 +60,12 @@ in_a_table() {
     KUPALDIZ_WITHOUT="$1" run thread "--cfg kupaldiz_edges" --test table -- random_calls
 }
 
-# Whether they report a race without this edge.
-races_in_a_table() {
-    ! in_a_table "$1" && grep -q 'data race' "$said"
-}
-
 case ${1-} in
 has) exit ;;
 quiet) run_without none ;;
-find | freed) comes_to_race "$1" ;;
+find | freed) comes_to_race '.*Tracked' run_without "$1" ;;
 table) in_a_table none ;;
-table-find) races_in_a_table find ;;
+table-find) comes_to_race '' in_a_table find ;;
 address)
     run address "" --test carried --test face --test foreign --test leaving --test loans --test model \
         --test table --test together ;;

@@ -80,11 +80,34 @@ impl Worker<'_> {
         Value::new(id, self.next_age, self.alive)
     }
 
+    /// Makes a change with a value. As long as the name's registry is full, it waits for the
+    /// sections of other threads, which a busy machine may keep in them for long.
+    fn with_room<R>(
+        &self,
+        mut value: Value,
+        change: impl Fn(Value) -> Result<R, Refused<AttachError, Value>>,
+    ) -> Result<R, Refused<AttachError, Value>> {
+        loop {
+            match change(value) {
+                Err(Refused { refusal: AttachError::Crowded | AttachError::NoSlot, given }) => {
+                    value = given;
+                    self.thread.synchronize(Patience::Forever).unwrap();
+                }
+                made => return made,
+            }
+        }
+    }
+
     fn attach(&mut self) {
         let id = self.own_id();
         let value = self.value(id);
-        let made =
-            if id % 2 == 0 { self.table.attach(id, value) } else { self.thread.attach(id, value) };
+        let made = self.with_room(value, |value| {
+            if id % 2 == 0 {
+                self.table.attach(id, value)
+            } else {
+                self.thread.attach(id, value)
+            }
+        });
         match made {
             Ok(_) => assert_eq!(self.ages.insert(id, self.next_age), None),
             Err(Refused { refusal, given }) => {
@@ -99,7 +122,7 @@ impl Worker<'_> {
     fn replace(&mut self) {
         let id = self.own_id();
         let value = self.value(id);
-        match self.table.replace(id, value) {
+        match self.with_room(value, |value| self.table.replace(id, value)) {
             Ok((_, retired)) => {
                 let old = self.ages.insert(id, self.next_age);
                 match retired.try_destroy() {

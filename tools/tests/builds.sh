@@ -23,9 +23,11 @@ runs_over_musl() {
     runs musl-gcc "$@" && built interrupted musl-gcc "$@" -Wl,--wrap=nanosleep,--wrap=pthread_cond_wait,--wrap=pthread_cond_timedwait,--wrap=pthread_join && "$room/interrupted"
 }
 
-# runs_as_cxx COMMAND..: the headers, in C++20.
+# runs_as_cxx COMMAND..: the headers, in C++20. The modules are compiled in a folder of this test's
+# own, as that of another compiler may run beside it.
 runs_as_cxx() {
-    (cd c/src/waiting && gcc -O2 -std=c11 -D_POSIX_C_SOURCE=200809L -I"$include" -I../../include -c ./*.c && mv ./*.o "$room") &&
+    local waiting=$PWD/c/src/waiting
+    (cd "$room" && gcc -O2 -std=c11 -D_POSIX_C_SOURCE=200809L -I"$include" -I"$waiting/../../include" -c "$waiting"/*.c) &&
         "$@" -std=c++20 -Wall -Wextra -Wpedantic -Werror -I"$include" -Ic/include -x c++ c/tests/installed.c -x none "$room"/{waits,deferred,reclaimer,pool}.o "$archive" -pthread -o "$room/cxx" &&
         "$room/cxx" | grep '^C++, version'
 }

@@ -51,7 +51,7 @@ test("a file without -DKUPALDIZ_EXPLORER is refused by the linker" CALLS refuses
 test("a file without -fsanitize=thread is named" CALLS names_unseen_file)
 test("a program that is linked with it is refused" CALLS refuses_linked_sanitizer)
 test("a picture" CALLS is_picture)
-test("100,000 switches a second" RUNS ${BUILT}/speed 100000)
+test("switches that the kernel takes no part in" RUNS ${BUILT}/speed)
 set(TRACED valgrind -q --error-exitcode=99 --trace-children=yes)
 test("counts, under valgrind" RUNS ${TRACED} ${BUILT}/counts)
 test("a driver, under valgrind" RUNS ${TRACED} ${BUILT}/drivers bridge)

@@ -4,13 +4,19 @@
 out=$PWD/out
 limits=${header%.h}_limits.h
 
+# cargo_watched WORD..: the crate's tests, where each call is watched, in a folder of their own: so
+# no test of cargo's with other flags builds anew what runs.
+cargo_watched() {
+    cd rust && CARGO_TARGET_DIR=$CARGO_TARGET_DIR/watched RUSTFLAGS=$(tests/watching.sh) cargo test --offline --test '*' "$@"
+}
+
 watched_tests() {
-    cd rust && RUSTFLAGS=$(tests/watching.sh) cargo test --offline --no-fail-fast --test '*'
+    cargo_watched --no-fail-fast
 }
 
 # The programs of the crate's tests, as cargo names them where it isn't told to be quiet; except those that run the compiler or themselves, or look at types.
 rust_tests() {
-    (cd rust && CARGO_TERM_QUIET=false RUSTFLAGS=$(tests/watching.sh) cargo test --offline --no-run --test '*' 2>&1) | grep -oE '/[^ ()]*/(carried|face|foreign|leaving|loans|memory|model|table|together)-[0-9a-f]+'
+    (CARGO_TERM_QUIET=false cargo_watched --no-run 2>&1) | grep -oE '/[^ ()]*/(carried|face|foreign|leaving|loans|memory|model|table|together)-[0-9a-f]+'
 }
 
 # guarded_tests COMMAND..: each of them by this command, except what forgets on purpose; the stress with fewer changes.

@@ -5,8 +5,10 @@ pub mod watched;
 
 use kupaldiz::*;
 use std::cell::RefCell;
+use std::fs;
 use std::future::Future;
 use std::mem;
+use std::path::PathBuf;
 use std::pin::Pin;
 use std::process;
 use std::sync::atomic::{AtomicUsize, Ordering};
@@ -50,6 +52,24 @@ pub fn patience() -> Patience {
 pub fn scaled(steps: usize) -> usize {
     std::env::var("KUPALDIZ_CHANGES")
         .map_or(steps, |percent| steps * percent.parse::<usize>().unwrap() / 100)
+}
+
+/// A thread, for others that wait until it waits.
+pub struct Waiter(PathBuf);
+
+impl Waiter {
+    /// This thread.
+    pub fn here() -> Waiter {
+        Waiter(fs::canonicalize("/proc/thread-self").unwrap().join("stat"))
+    }
+
+    /// Returns once the thread sleeps, or has ended.
+    pub fn waits(&self) {
+        let state = || fs::read_to_string(&self.0).ok()?.rsplit_once(") ")?.1.chars().next();
+        while state().map_or(false, |state| state != 'S') {
+            thread::yield_now();
+        }
+    }
 }
 
 /// Numbers from a seed.
