@@ -76,12 +76,6 @@ def source(header):
 
 
 @functools.cache
-def bare(header):
-    """The header without its comments."""
-    return re.sub(r"/\*.*?\*/", "", source(header), flags=re.S)
-
-
-@functools.cache
 def calls_of(header):
     """The calls of a header that are checked: of kupaldiz.h those that take a handle."""
     is_all = header != "kupaldiz.h"
@@ -93,19 +87,14 @@ def short(call):
     return call.name.removeprefix("kupaldiz_")
 
 
-def declaration(call, header):
-    """The call's declaration, with its attributes."""
-    return re.search(rf"\b{call.name}\([^;{{]*;", bare(header))[0]
-
-
-def needs_look(call, header):
+def needs_look(call):
     """' KUPALDIZ_MUST_USE' if the call's result must be used."""
-    return " KUPALDIZ_MUST_USE" * ("KUPALDIZ_MUST_USE" in declaration(call, header))
+    return " KUPALDIZ_MUST_USE" * ("KUPALDIZ_MUST_USE" in call.attributes)
 
 
-def needed(call, header):
+def needed(call):
     """The parameters that are never NULL."""
-    places = re.search(r"KUPALDIZ_NONNULL\(([^)]*)\)", declaration(call, header))
+    places = re.search(r"KUPALDIZ_NONNULL\(([^)]*)\)", call.attributes)
     return {call.parameters[int(it) - 1] for it in places[1].split(",")} if places else set()
 
 
@@ -133,20 +122,20 @@ def function(start, lines):
     return "\n".join([start, "{", *(f"\t{it}" for it in lines), "}"])
 
 
-def declared(call, header):
+def declared(call, _):
     if call.name == OPEN:
         return ""
-    return wrapped(head(call, "checked", "KUPALDIZ_FROM") + needs_look(call, header) + ";")
+    return wrapped(head(call, "checked", "KUPALDIZ_FROM") + needs_look(call) + ";")
 
 
-def macro(call, header):
+def macro(call, _):
     if call.name in (OPEN, OPEN_TABLE):
         return ""
     becomes = f"kupaldiz_checked_{short(call)}({given(call)}, KUPALDIZ_AT)"
     return f"#define {call.name}({given(call)}) \\\n\t" + wrapped(becomes, 84, " \\\n\t")
 
 
-def renamed(call, header):
+def renamed(call, _):
     return f"#define {call.name}\tkupaldiz_inner_{short(call)}"
 
 
@@ -155,13 +144,13 @@ def edges(of, call, line):
     return [line.format(edge) for edge, names in of.items() if short(call) in names.split()]
 
 
-def ordered(call, header):
+def ordered(call, _):
     """The call under the thread sanitizer, if it orders memory."""
     before = edges(BEFORE, call, "__tsan_release({});")
     after = edges(AFTER, call, "if (result == KUPALDIZ_DONE)\n\t\t__tsan_acquire({});")
     if not before + after:
         return ""
-    start = wrapped(f"static inline{needs_look(call, header)} {head(call, 'tsan')}")
+    start = wrapped(f"static inline{needs_look(call)} {head(call, 'tsan')}")
     called = f"enum kupaldiz_result result = {call.name}({given(call)});"
     lines = [*before, wrapped(called, 92, "\n\t"), *after, "return result;"]
     becomes = f"kupaldiz_tsan_{short(call)}({given(call)})"
@@ -174,20 +163,19 @@ def acquired(call):
     return last[1] if last and re.match("get|acquire", short(call)) else ""
 
 
-def handles_looked_at(call, header):
+def handles_looked_at(call):
     for it in call.parameters:
         if "kupaldiz_keeper *" in it:
             yield "use_locked(keeper);"
         if it.endswith("*cpus"):
             yield "use_all(cpus, count);"
         elif "kupaldiz_cpu *" in it:
-            is_needed = it in needed(call, header)
-            yield "use(CPU, cpu);" if is_needed else "if (cpu != NULL)\n\t\tuse(CPU, cpu);"
+            yield "use(CPU, cpu);" if it in needed(call) else "if (cpu != NULL)\n\t\tuse(CPU, cpu);"
 
 
-def looked_at(call, header):
+def looked_at(call):
     """What is looked at before a call of kupaldiz.h. What it acquires has the entry it writes."""
-    yield from handles_looked_at(call, header)
+    yield from handles_looked_at(call)
     taken = acquired(call)
     if taken:
         yield f"judge_pointer({'LOCAL' if taken == 'local' else 'PASSIVE'}, {taken});"
@@ -211,7 +199,7 @@ def checked(call, header):
     if call.name in BY_HAND:
         return ""
     if header == "kupaldiz.h":
-        lines = [f'begin("{call.name}", file, line);', *looked_at(call, header),
+        lines = [f'begin("{call.name}", file, line);', *looked_at(call),
                  f"return {ended(call)};"]
     else:
         lines = [f'kupaldiz_check_outer("{call.name}", file, line);', *LOOKED_AT.get(short(call), ()),
@@ -259,16 +247,6 @@ FROM = ("tools/call-headers.py", "tools/header-pages.py", *HEADERS.values(),
         "c/include/kupaldiz_check.h.in", "c/include/kupaldiz_tsan.h.in")
 
 
-def write(name):
-    """Writes a file that isn't so already, in one step: another process may read it."""
-    text = f"/* Made by tools/call-headers.py: don't edit it. */\n{MADE[name](name)}"
-    file = FOLDER / name
-    if not file.exists() or file.read_text() != text:
-        new = file.with_suffix(f".{os.getpid()}")
-        new.write_text(text)
-        os.replace(new, file)
-
-
 def mark_new(file):
     """packaging/places.mk sees by this file whether all are new. If they are, its time stays: else
     each make would link the programs anew that are made of it, also while another process runs
@@ -280,11 +258,9 @@ def mark_new(file):
 
 def main(words):
     if words != ["make"]:
-        print("usage: call-headers.py make", file=sys.stderr)
-        return 2
-    FOLDER.mkdir(parents=True, exist_ok=True)
-    for name in MADE:
-        write(name)
+        sys.exit(__doc__)
+    for name, make in MADE.items():
+        pages.write(FOLDER / name, f"/* Made by tools/call-headers.py: don't edit it. */\n{make(name)}")
     mark_new(FOLDER / "checked.h")
     return 0
 

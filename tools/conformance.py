@@ -3,28 +3,27 @@
 
     tools/conformance.py write FOLDER [--seed N] [--scripts N] [--lines N] [--only COMMAND,..]
     tools/conformance.py run FOLDER PROGRAM [ARGUMENT]..
-    tools/conformance.py test [COMMAND]..
+    tools/conformance.py test [DRIVER]..
 
-`write` makes NNNN.txt and, by the program's engine `core`, NNNN.report; it says which answers they met, and which they never did. `run` gives each
-script to a program on its standard input, and compares what it prints with the report. `test` writes scripts, compares the reports with those of another
-registry, tools/other_registry.py, and then once more with each of its faults, which some script must find. It also has both engines, `core` and `live`,
-run these scripts, and if the program is built larger ones, and some with a byte changed, which most often is a fault of the script. Each COMMAND, as a driver of
-the library in C or Rust, gets the path of a script as its last argument, and must print its report, too. It gets all of these scripts except those that
-are_for_faces leaves out. The last line of both is 'N passed, M failed'. The program is crates/registry_run/out/registry_run where it stands, else the same sources, compiled by `rt try` without a proof.
+`write` makes NNNN.txt and, by the program's engine `core`, NNNN.report; it says which answers they met, and which they never did. `run` gives each script to a
+program on its standard input, and compares what it prints with the report. `test` writes scripts, compares the reports with those of another registry,
+tools/other_registry.py, and then once more with each of its faults, which some script must find. It has both engines, `core` and `live`, run these scripts, and
+if the program is built larger ones, and some with a byte changed, which most often is a fault of the script. Each DRIVER of the library in C or Rust is a
+command that gets the path of a script as its last word; it must print the reports, too, of those scripts that C and Rust have all calls for. The last line of
+`run` and `test` is 'N passed, M failed'. The program is crates/registry_run/out/registry_run, or else the same sources, compiled by `rt try` without a proof.
 """
 import argparse
 import collections
 import pathlib
 import random
-import re
 import shlex
 import sys
 import tempfile
 from concurrent.futures import ThreadPoolExecutor
 
 from engines import ROOT, ran, said_when_tried
-from other_registry import FAULTS, Registry, report_of
-from checks import counted, ended, processors
+from other_registry import FAULTS, Registry, lines_of, report_of
+from checks import counted, processors
 
 PROGRAM = ROOT / "crates/registry_run/out/registry_run"
 # So many scripts are written for a test.
@@ -147,26 +146,11 @@ def reports_of(scripts):
         yield report
 
 
-def answer_of(line):
-    """The answer that a line of a report is, in one word."""
-    if line in NO_CALL:
-        return line.replace(" ", "-")
-    words = line.split()
-    return words[1] if words[0] == "refused" else words[0]
-
-
-def answers_of(script, report):
-    """Each command of a script with its answer. An audit's has a line for each slot, the least first."""
-    lines = report.splitlines()
-    for command in script.splitlines():
-        verb, slot = command.split()[0], -1
-        yield verb, answer_of(lines[0])
-        while True:
-            found = re.match(r"slot (\d+)", lines.pop(0))
-            slot = int(found[1]) if found else -1
-            following = re.match(r"slot (\d+)", lines[0]) if verb == "audit" and lines else None
-            if not following or int(following[1]) <= slot:
-                break
+def answers_of(script):
+    """Each command of a script with its answer, in one word."""
+    for command, line in zip(script.splitlines(), lines_of(script)):
+        answer = line.replace(" ", "-") if line in NO_CALL else line.removeprefix("refused ").split()[0]
+        yield command.split()[0], answer
 
 
 def write_kit(folder, options, verbs):
@@ -174,48 +158,42 @@ def write_kit(folder, options, verbs):
     folder.mkdir(parents=True, exist_ok=True)
     seeds = range(options.seed, options.seed + options.scripts)
     scripts = [Writer(random.Random(seed), verbs).script(options.lines) for seed in seeds]
-    reports = list(reports_of(scripts))
-    for place, (script, report) in enumerate(zip(scripts, reports)):
+    for place, (script, report) in enumerate(zip(scripts, reports_of(scripts))):
         (folder / f"{place:04}.txt").write_text(script)
         (folder / f"{place:04}.report").write_text(report)
-    met = {answer for script, report in zip(scripts, reports) for answer in answers_of(script, report)}
+    met = {answer for script in scripts for answer in answers_of(script)}
     wanted = {(verb, answer) for verb in verbs for answer in COMMANDS[verb].answers.split()}
     return met & wanted, wanted - met, met - wanted
 
 
 def write(options):
     verbs = options.only.split(",") if options.only else list(COMMANDS)
-    unknown = set(verbs) - set(COMMANDS)
-    if unknown:
+    if unknown := set(verbs) - set(COMMANDS):
         sys.exit(f"no commands: {' '.join(sorted(unknown))}")
     met, never, strange = write_kit(options.folder, options, {"domain", *verbs})
-    print(f"{options.scripts} scripts in {options.folder}")
-    print(f"answers met: {len(met)} of {len(met) + len(never)}")
+    print(f"{options.scripts} scripts in {options.folder}\nanswers met: {len(met)} of {len(met) + len(never)}")
     for what, found in (("never met", never), ("not in the list", strange)):
         print("".join(f"{what}: {verb} {answer}\n" for verb, answer in sorted(found)), end="")
     return bool(strange)
 
 
-def first_difference(report, found):
-    """Where two reports part."""
+def difference(report, found):
+    """Where two reports part; '' where they are the same."""
     pairs = zip([*report.splitlines(), "(the end)"], [*found.splitlines(), "(the end)"])
     parted = (f"line {place} is '{other}' and not '{one}'" for place, (one, other) in enumerate(pairs, 1) if one != other)
-    return next(parted, "another end of line")
+    return next(parted, "another end of line") if report != found else ""
 
 
-def failures_of(folder, program):
-    """Of each script where a program parts from its report, '' where it prints that."""
-    for path in sorted(folder.glob("*.txt")):
-        report = path.with_suffix(".report").read_text()
-        status, found, _ = ran(program, path.read_text())
-        if status != 0:
-            yield f"{path.name}: status {status}"
-        else:
-            yield f"{path.name}: {first_difference(report, found)}" if found != report else ""
+def failure(path, report, command, script=None):
+    """Where what a command prints of a script parts from its report; '' where it prints that."""
+    status, found, _ = ran(command, script)
+    wrong = f"status {status}" if status else difference(report, found)
+    return wrong and f"{path.name}: {wrong}"
 
 
 def run(options):
-    return counted(failures_of(options.folder, options.program))
+    paths = sorted(options.folder.glob("*.txt"))
+    return counted(failure(it, it.with_suffix(".report").read_text(), options.program, it.read_text()) for it in paths)
 
 
 def is_told(folder, fault=None):
@@ -232,7 +210,7 @@ def with_a_byte_changed(script, rng):
 def first_apart(scripts):
     """The first script on which the engines `core` and `live` print or end otherwise, if any."""
     said = zip(scripts, said_by("core", scripts), said_by("live", scripts))
-    return next((f"{script}\ncore: {by_core}\nlive: {by_live}" for script, by_core, by_live in said if by_core != by_live), None)
+    return next((f"{script}\ncore: {by_core}\nlive: {by_live}" for script, by_core, by_live in said if by_core != by_live), "")
 
 
 class Beyond(Exception):
@@ -250,37 +228,28 @@ class OfFaces(Registry):
         return super().plug(cpu, name, value, label)
 
 
-def are_for_faces(scripts):
-    """The scripts, without a fault, that C and Rust have all calls for."""
-    for script in scripts:
-        try:
-            report_of(script, registry=OfFaces())
-            yield script
-        except Beyond:
-            pass
+def is_for_faces(script):
+    """Whether C and Rust have all calls for the script, which has no fault."""
+    try:
+        return bool(report_of(script, registry=OfFaces()))
+    except Beyond:
+        return False
 
 
-def failures_of_driver(command, folder, scripts, reports):
-    """Of each script where a driver parts from its report, '' where it prints that."""
-    def one(place):
-        path = folder / f"driven-{place}"
-        path.write_text(scripts[place])
-        status, found, error = ran([*shlex.split(command), path])
-        return "" if (status, found) == (0, reports[place]) else f"status {status}: {first_difference(reports[place], found)} {error}\n{scripts[place]}"
-
-    with ThreadPoolExecutor(processors()) as pool:
-        return list(pool.map(one, range(len(scripts))))
-
-
-def checks_of_driver(command, folder, scripts):
+def checks_of_driver(driver, folder, scripts):
     """The two checks of a driver, each with what fails."""
-    driven = list(are_for_faces(scripts))
-    found = failures_of_driver(command, folder, driven, list(reports_of(driven)))
-    yield f"{command} prints each report of {len(driven)} scripts", next(filter(None, found), "")
-    yield f"{command} runs most scripts", "" if len(driven) > len(scripts) / 2 else f"only {len(driven)} of {len(scripts)}"
+    driven = list(filter(is_for_faces, scripts))
+    paths = [folder / f"driven-{place}" for place in range(len(driven))]
+    for path, script in zip(paths, driven):
+        path.write_text(script)
+    with ThreadPoolExecutor(processors()) as pool:
+        commands = [[*shlex.split(driver), path] for path in paths]
+        found = list(pool.map(failure, paths, reports_of(driven), commands))
+    yield f"{driver} prints each report of {len(driven)} scripts", next((f"{it}\n{script}" for it, script in zip(found, driven) if it), "")
+    yield f"{driver} runs most scripts", "" if len(driven) > len(scripts) / 2 else f"only {len(driven)} of {len(scripts)}"
 
 
-def checks_of(commands, folder):
+def checks_of(drivers, folder):
     """Each check with what fails, or ''."""
     _, never, strange = write_kit(folder, argparse.Namespace(seed=1, scripts=SCRIPTS, lines=150), set(COMMANDS))
     rng, scripts = random.Random(1), [path.read_text() for path in sorted(folder.glob("*.txt"))]
@@ -290,18 +259,14 @@ def checks_of(commands, folder):
     # Without a built program these would take too long.
     changed = [with_a_byte_changed(it, rng) for it in rng.choices(scripts, k=800)] if PROGRAM.exists() else []
     large = [Writer(rng, set(COMMANDS), is_large=True).script(1500) for _ in range(50)] if PROGRAM.exists() else []
-    yield "both engines print the same and end alike", first_apart([*scripts, *changed, *large]) or ""
-    for command in commands:
-        yield from checks_of_driver(command, folder, [*scripts, *large])
+    yield "both engines print the same and end alike", first_apart([*scripts, *changed, *large])
+    for driver in drivers:
+        yield from checks_of_driver(driver, folder, [*scripts, *large])
 
 
 def test(options):
-    passed = failed = 0
-    with tempfile.TemporaryDirectory() as name:
-        for check, fault in checks_of(options.command, pathlib.Path(name)):
-            print(f"FAILED  {check}: {fault}" if fault else f"ok      {check}", flush=True)
-            passed, failed = passed + (not fault), failed + bool(fault)
-    return ended(passed, failed)
+    with tempfile.TemporaryDirectory() as folder:
+        return counted(wrong and f"FAILED  {check}: {wrong}" for check, wrong in checks_of(options.driver, pathlib.Path(folder)))
 
 
 def main():
@@ -316,7 +281,7 @@ def main():
         writing.add_argument(f"--{name}", type=int, default=number)
     writing.add_argument("--only", help="the commands that a program has, with commas between")
     running.add_argument("program", nargs=argparse.REMAINDER)
-    testing.add_argument("command", nargs="*")
+    testing.add_argument("driver", nargs="*")
     options = parser.parse_args()
     sys.exit(options.act(options))
 

@@ -9,14 +9,13 @@ The last line is 'N passed, M failed', and the status is 1 where one failed.
 """
 import collections
 import functools
-import itertools
 import re
 import sys
 import textwrap
 
 import contracts
 from contracts import contract
-from checks import ROOT, ended
+from checks import ROOT, counted
 from wrong import CRATES, GATE, PROVER, file_of, places
 from wrong import edits_of as edits_of_crate
 
@@ -51,23 +50,24 @@ def events():
     return {name: " ".join(re.findall("/// (.*)", text)).split(". ")[0].rstrip(".") for text, name in re.findall(r"((?:    /// .*\n?)+)    (\w+)[(,]", body)}
 
 
-def line_of(path, function, event):
-    """What a function that goes by the event says of this one."""
-    found = re.search(rf"^{function} s \(?{event}\b[^=]*=(.*)$", path.read_text(), re.M)
-    return found[1] if found else ""
+def once(found):
+    """Each of what was found, in its order."""
+    return list(dict.fromkeys(found))
 
 
 def definitions(event):
     """The definitions that `step` names for the event."""
-    own = set(re.findall(r"^(?:abbrev )?pub (\w+) :", DEFINITIONS.read_text(), re.M))
-    return list(dict.fromkeys(it for it in re.findall(r"\w+", line_of(DEFINITIONS, "step", event)) if it in own - SHARED))
+    text = DEFINITIONS.read_text()
+    own = set(re.findall(r"^(?:abbrev )?pub (\w+) :", text, re.M)) - SHARED
+    lines = re.findall(rf"^step s \(?{event}\b[^=]*=(.*)$", text, re.M)
+    return once(it for line in lines for it in re.findall(r"\w+", line) if it in own)
 
 
 def keeping(event):
     """The lemmas that `made_keeps` cites for what the event may be; for what leaves the state, which its last line serves, itself."""
     cases = re.findall(rf"^  (\w+) :(?:(?!^  \w+ :|^$).)*? Made s \(?{event}\b", MADE.read_text(), re.M | re.S)
     lines = dict(re.findall(r"^made_keeps s _ _ _ on \((\w+)((?:(?!^made_keeps).)*)", KEEPING.read_text(), re.M | re.S))
-    return list(dict.fromkeys(it for case in cases for it in re.findall(r"\w+_keeps\b", lines.get(case, "made_keeps"))))
+    return once(it for case in cases for it in re.findall(r"\w+_keeps\b", lines.get(case, "made_keeps")))
 
 
 def method(event):
@@ -118,11 +118,9 @@ def operation(path, line):
     """What a step writes to make the operation of a file of src/operations/ that has this line."""
     for text in reversed(path.read_text().split("\n")[:line + 1]):
         joins, function = re.match(r"impl (Split|Join)<\w+> for (\w+)", text), FUNCTION.match(text)
-        if joins:
-            return f"{joins[1].lower()}_seat::<{joins[2]}>"
-        if function:
-            return f"{path.stem}::{function[1]}"
-    return None
+        if joins or function:
+            return f"{joins[1].lower()}_seat::<{joins[2]}>" if joins else f"{path.stem}::{function[1]}"
+    return "?"
 
 
 @functools.cache
@@ -135,61 +133,57 @@ def edits_of(step, tried):
     """The edits of the step's body or of its operation; where there are none, those of the function of `passive_list` that calls it."""
     body, text = step.function, step.function.text
     own = [edit for edit, path, line in tried if path == body.path and body.first <= line <= body.last]
-    own += [edit for edit, path, line in tried if path.parent == WORDS / "src/operations" and (operation(path, line) or "?") in text]
+    own += [edit for edit, path, line in tried if path.parent == WORDS / "src/operations" and operation(path, line) in text]
     above = [edit for edit, path, line in tried if path.parent == LIST and any(
         it.first <= line <= it.last and re.search(rf"\b{body.name}\(", it.text) for it in functions_of(path))]
-    return [link(it.name, file_of(it.crate)) + (" *" if it.kind == PROVER else "") for it in dict.fromkeys(own or above)]
+    return [link(it.name, file_of(it.crate)) + (" *" if it.kind == PROVER else "") for it in once(own or above)]
 
 
 def quoted(names):
     return [f"`{it}`" for it in names]
 
 
-def rows():
-    """All rows, in the order of the events: the cells of each."""
-    known, edits = events(), (edit for kind in (GATE, PROVER) for crate in CRATES for edit in edits_of_crate(crate, kind))
-    # Each edit for the prover, with each place in a source file that it changes.
-    tried = [(edit, path, line) for edit in edits for path, line in places(edit) if path.suffix == ".rt"]
-    made = list(steps(known))
-    for event, does in known.items():
-        for step in (it for it in made if it.event == event):
-            found = (quoted(definitions(event)), [link(step.function.name, step.function.path)], cited(step), step_lemma(step) + quoted(keeping(event)),
-                     quoted(method(event)), edits_of(step, tried))
-            yield [f"`{event}`", does, *map(", ".join, found)]
+def row(step, tried):
+    """What is listed of a step, by LISTED's names."""
+    event, function = step.event, step.function
+    found = (quoted(definitions(event)), [link(function.name, function.path)], cited(step), step_lemma(step) + quoted(keeping(event)),
+             quoted(method(event)), edits_of(step, tried))
+    return dict(zip(LISTED, found))
 
 
-def faults(found):
-    """What the rows lack: a row for each event, and in a row a name for each cell except the contract's."""
-    names = {cells[0] for cells in found}
-    yield from (f"{event}: no step makes it" for event in events() if f"`{event}`" not in names)
-    for cells in found:
-        lacks = [kind for kind, cell in (("definition", cells[2]), ("method", cells[6]), ("edit", cells[7])) if not cell]
-        lacks += ["second lemma"] if cells[5].count("`") < 4 else []
-        yield from (f"{cells[0]}, {cells[3]}: no {kind}" for kind in lacks)
+def faults(event, rows):
+    """What an event lacks: a step that makes it, and of each such step a name of each kind except what its contract cites."""
+    if not rows:
+        yield f"{event}: no step makes it"
+    for it in rows:
+        lacks = [kind for kind in ("Definition", "Pure machine", "Edits") if not it[kind]] + ["second lemma"] * (len(it["Lemmas"]) < 2)
+        yield "".join(f"{event}, {it['Step'][0]}: no {kind}; " for kind in lacks)
 
 
 def filled(text, indent=""):
     return textwrap.fill(text, 100, subsequent_indent=indent, break_long_words=False, break_on_hyphens=False)
 
 
-def section(event, rows_of_it):
+def section(event, does, rows):
     """The heading of an event, what it does, and a list for each step that makes it."""
-    lists = ["\n".join(filled(f"- {kind}: {cell}", "  ") for kind, cell in zip(LISTED, cells[2:]) if cell) for cells in rows_of_it]
-    return "\n\n".join([f"### {event}", filled(f"{rows_of_it[0][1]}."), *lists]) + "\n"
+    lists = ["\n".join(filled(f"- {kind}: {', '.join(names)}", "  ") for kind, names in it.items() if names) for it in rows]
+    return "\n\n".join([f"### `{event}`", filled(f"{does}."), *lists]) + "\n"
 
 
-def main():
-    if sys.argv[1:] not in (["make"], ["check"]):
+def main(words):
+    if words not in (["make"], ["check"]):
         sys.exit(__doc__)
-    page, found = PAGE.read_text(), list(rows())
-    made = "\n".join(section(event, list(cells)) for event, cells in itertools.groupby(found, lambda it: it[0]))
-    if sys.argv[1] == "make":
-        page = TABLE.sub(lambda _: BEGIN + made + END, page)
-        PAGE.write_text(page)
-    wrong = list(faults(found)) + ([] if TABLE.findall(page) == [made] else ["docs/EVENTS.md: not as tools/event-table.py make writes it"])
-    for fault in wrong:
-        print(fault)
-    sys.exit(ended(max(len(found) + 1 - len(wrong), 0), len(wrong)))
+    known, edits = events(), [edit for kind in (GATE, PROVER) for crate in CRATES for edit in edits_of_crate(crate, kind)]
+    # Each edit for the prover, with each place in a source file that it changes.
+    tried = [(edit, path, line) for edit in edits for path, line in places(edit) if path.suffix == ".rt"]
+    made = list(steps(known))
+    rows = {event: [row(it, tried) for it in made if it.event == event] for event in known}
+    text = "\n".join(section(event, does, rows[event]) for event, does in known.items())
+    if words == ["make"]:
+        PAGE.write_text(TABLE.sub(lambda _: BEGIN + text + END, PAGE.read_text()))
+    stale = "" if TABLE.findall(PAGE.read_text()) == [text] else "docs/EVENTS.md: not as tools/event-table.py make writes it"
+    return counted([*(fault for event in known for fault in faults(event, rows[event])), stale])
 
 
-main()
+if __name__ == "__main__":
+    sys.exit(main(sys.argv[1:]))

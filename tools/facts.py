@@ -25,41 +25,34 @@ def text_of(path):
 
 def limit(name):
     """A limit of the header, or the power of two that it is."""
-    return re.search(rf"^#define {name}\s+(?:\(UINT64_C\(1\) << )?(\d+)", text_of(LIMITS), re.M)[1]
-
-
-def exports():
-    sources = (ROOT / "crates/registry_c/src").glob("*.rt")
-    return str(sum(text_of(it).count("no_mangle") for it in sources))
-
-
-def calls():
-    command = ["packaging/calls-of.sh", HEADER]
-    return str(len(subprocess.run(command, cwd=ROOT, check=True, stdout=subprocess.PIPE).stdout.split()))
+    return re.search(rf"^#define KUPALDIZ_MOST_{name}\s+(?:\(UINT64_C\(1\) << )?(\d+)", text_of(LIMITS), re.M)[1]
 
 
 def lookup(contender, operation="lookup", threads=1):
     """The nanoseconds of an operation of the published run, among eight entries."""
     numbers = figures.block(f"{operation}, ns")[contender]
-    return str(round(float(numbers[1 if threads == 1 else 4])))
+    return round(float(numbers[1 if threads == 1 else 4]))
 
 
 def aims(end):
     """How many aims of the published run end so."""
-    return str(len(re.findall(rf", at (?:most|least) .*  {end}$", figures.run(), re.M)))
+    return len(re.findall(rf", at (?:most|least) .*  {end}$", figures.run(), re.M))
+
+
+def said_by(*command):
+    return subprocess.run(command, cwd=ROOT, check=True, stdout=subprocess.PIPE, text=True).stdout
 
 
 def thousands(told, *patterns):
     """How many thousand lines these files have: what is told, if it is right within one thousand."""
-    command = ["git", "-c", "safe.directory=*", "ls-files", "-z", "--", *patterns]
-    listed = subprocess.run(command, cwd=ROOT, check=True, stdout=subprocess.PIPE, text=True).stdout
+    listed = said_by("git", "-c", "safe.directory=*", "ls-files", "-z", "--", *patterns)
     lines = sum(text_of(it).count("\n") for it in listed.split("\0") if (ROOT / it).is_file())
-    return told if abs(lines - 1000 * int(told)) < 1000 else str(round(lines / 1000))
+    return told if abs(lines - 1000 * int(told)) < 1000 else round(lines / 1000)
 
 
 def events():
     body = text_of("crates/protocol/src/event.rt").partition("pub enum Event {")[2].partition("\n}")[0]
-    return str(len(re.findall(r"^    [A-Z]\w*\(", body, re.M)))
+    return len(re.findall(r"^    [A-Z]\w*\(", body, re.M))
 
 
 # The lines of these files, in thousands.
@@ -70,32 +63,33 @@ LINES = {
     "lines_c": "*.[ch]",
     "lines_rust": "*.rs",
 }
-# What the sources say of others.
-SOURCES = {
-    "proved": exports,
-    "calls": calls,
-    "slots": lambda: limit("KUPALDIZ_MOST_SLOTS"),
-    "cpus": lambda: limit("KUPALDIZ_MOST_CPUS"),
-    "changes": lambda: limit("KUPALDIZ_MOST_CHANGES"),
-    "sections": lambda: limit("KUPALDIZ_MOST_SECTIONS"),
-    "nested": lambda: limit("KUPALDIZ_MOST_DEPTH"),
-    "events": events,
-    "from_c": lambda: lookup("from-C"),
-    "from_rust": lambda: lookup("from-Rust"),
-    "urcu": lambda: lookup("urcu-memb"),
-    "crossbeam": lambda: lookup("crossbeam-epoch"),
-    "arc_swap": lambda: lookup("arc-swap"),
-    "copy": lambda: lookup("from-C", "look_up"),
-    "rust_read": lambda: lookup("from-Rust", "read"),
-    "rust_get": lambda: lookup("from-Rust", "get"),
-    "rust_copy": lambda: lookup("from-Rust", "look_up"),
-    "rwlock": lambda: lookup("pthread_rwlock", threads=4),
-    "mutex": lambda: lookup("pthread_mutex", threads=4),
-    "from_c_4": lambda: lookup("from-C", threads=4),
-    "aims_met": lambda: aims("met"),
-    "aims_in_part": lambda: aims(r"met \d+ of \d+"),
-    "aims_missed": lambda: aims("missed"),
+OF_LIMITS = {"slots": "SLOTS", "cpus": "CPUS", "changes": "CHANGES", "sections": "SECTIONS", "nested": "DEPTH"}
+OF_RUN = {
+    "from_c": ("from-C",),
+    "from_rust": ("from-Rust",),
+    "urcu": ("urcu-memb",),
+    "crossbeam": ("crossbeam-epoch",),
+    "arc_swap": ("arc-swap",),
+    "copy": ("from-C", "look_up"),
+    "rust_read": ("from-Rust", "read"),
+    "rust_get": ("from-Rust", "get"),
+    "rust_copy": ("from-Rust", "look_up"),
+    "rwlock": ("pthread_rwlock", "lookup", 4),
+    "mutex": ("pthread_mutex", "lookup", 4),
+    "from_c_4": ("from-C", "lookup", 4),
 }
+AIMS = {"aims_met": "met", "aims_in_part": r"met \d+ of \d+", "aims_missed": "missed"}
+
+
+def sources(facts):
+    """What the sources say of facts, by their names."""
+    yield "proved", sum(text_of(it).count("no_mangle") for it in ROOT.glob("crates/registry_c/src/*.rt"))
+    yield "calls", len(said_by("packaging/calls-of.sh", HEADER).split())
+    yield "events", events()
+    yield from ((name, limit(it)) for name, it in OF_LIMITS.items())
+    yield from ((name, lookup(*it)) for name, it in OF_RUN.items())
+    yield from ((name, aims(it)) for name, it in AIMS.items())
+    yield from ((name, thousands(facts[name], files)) for name, files in LINES.items())
 
 
 def read():
@@ -134,11 +128,9 @@ def wrong_places(path, facts, forms):
 def compared(pages):
     """What is wrong with the file of facts, and with each page: where, and what."""
     facts, forms = read()
-    said = {name: source() for name, source in SOURCES.items()}
-    said.update((name, thousands(facts[name], files)) for name, files in LINES.items())
-    for name, number in said.items():
+    for name, number in sources(facts):
         told = facts.get(name)
-        yield FACTS, "" if told == number else f"{name} = {told}, and the sources have {number}"
+        yield FACTS, "" if told == str(number) else f"{name} = {told}, and the sources have {number}"
     met = set()
     for path in pages:
         found = list(wrong_places(path, facts, forms))

@@ -41,8 +41,8 @@ MARKED = re.compile(
 MACROS = {"code": "Fa", "zero": "Li", "call": "Fn", "constant": "Dv", "member": "Fa", "header": "In"}
 # Members of a struct from here on are nobody's but the library's.
 PRIVATE = "/* The rest is private. */"
-# A call of a header: its name, what its first line says, its comment's other lines, what it returns and its parameters.
-Call = collections.namedtuple("Call", "name summary comment result parameters")
+# A call of a header: its name, what its first line says, its comment's other lines, what it returns, its parameters and its attributes.
+Call = collections.namedtuple("Call", "name summary comment result parameters attributes")
 
 
 def plain(text):
@@ -58,7 +58,7 @@ def calls_in(text):
     for name, comment, declared in CALL.findall(text):
         summary, _, rest = uncommented(comment).partition("\n\n")
         result, _, parameters = DECLARATION.match(plain(ATTRIBUTE.sub("", declared))).groups()
-        yield Call(name, plain(summary), rest, result.strip(), [plain(it) for it in parameters.split(",")])
+        yield Call(name, plain(summary), rest, result.strip(), [plain(it) for it in parameters.split(",")], " ".join(ATTRIBUTE.findall(declared)))
 
 
 def groups_of(header):
@@ -205,19 +205,19 @@ def made(page):
     return "\n".join(lines) + "\n"
 
 
-def write(page):
-    """Writes a page that isn't so already, in one step: another process may read it."""
-    path, text = FOLDER / f"{page}.3", made(page)
+def write(path, text):
+    """Writes a file that isn't so already, in one step: another process may read it."""
+    path.parent.mkdir(parents=True, exist_ok=True)
     if not path.exists() or path.read_text() != text:
-        path.with_suffix(f".{os.getpid()}").write_text(text)
-        os.replace(path.with_suffix(f".{os.getpid()}"), path)
+        new = path.with_suffix(f".{os.getpid()}")
+        new.write_text(text)
+        os.replace(new, path)
 
 
 def main(words):
     if words == ["make"]:
-        FOLDER.mkdir(parents=True, exist_ok=True)
         for page in PAGES:
-            write(page)
+            write(FOLDER / f"{page}.3", made(page))
         return 0
     return counted("" for page in PAGES if made(page)) if words == ["check"] else __doc__
 

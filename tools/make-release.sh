@@ -18,16 +18,6 @@ refuse() {
     exit 2
 }
 
-# need COMMAND PACKAGE: the command is there.
-need() {
-    command -v "$1" >/dev/null || refuse "there is no $1: apt-get install $2"
-}
-
-# need_library COMPILER PACKAGE: the compiler has a C library.
-need_library() {
-    "$1" -E - <<<'#include <stdlib.h>' >/dev/null 2>&1 || refuse "$1 has no C library: apt-get install $2"
-}
-
 if [ "${1-}" = --prove ]; then
     prove=yes
     shift
@@ -38,14 +28,6 @@ case "$#,${1-}" in
 *) refuse "it takes --prove, --to FOLDER, or nothing" ;;
 esac
 cd "$root"
-
-need_tools() {
-    local pair
-    for pair in git:git gcc:gcc make:make xz:xz-utils ar:binutils cargo:cargo pkg-config:pkg-config dpkg-buildpackage:dpkg-dev dh:debhelper lintian:lintian; do
-        need "${pair%%:*}" "${pair##*:}"
-    done
-    need_library gcc libc6-dev
-}
 
 # The release is of a commit.
 need_commit() {
@@ -80,8 +62,7 @@ need_proved() {
     ./registry_run --proved >/dev/null || refuse "there is no proved registry_run of the sources that stand: tools/prove-program.sh proves and builds it"
     if [ -e out/aarch64/libkupaldiz_proved.a ]; then
         tools/proof-record.py check out/aarch64/libkupaldiz_proved.a || exit 2
-        need aarch64-linux-gnu-gcc gcc-aarch64-linux-gnu
-        need_library aarch64-linux-gnu-gcc libc6-dev-arm64-cross
+        tools/packages.py release-aarch64 >&2 || exit 2
     else
         echo "kupaldiz-$version-linux-aarch64.tar.xz is left out: tools/build-archive.sh --for aarch64 proves and builds its archive"
     fi
@@ -152,7 +133,7 @@ proved() {
     echo "registry_run for x86_64, proved and built by tools/prove-program.sh: SHA-256 ${record%% *}"
 }
 
-need_tools
+tools/packages.py release >&2 || exit 2
 need_commit
 need_place
 [ -z "$prove" ] || prove_all

@@ -285,11 +285,15 @@ def carry_out(registry, words):
         return str(line)
 
 
-def report_of(script, fault=None, registry=None):
-    """The report of a script, by a registry with this fault, or by this one."""
+def lines_of(script, fault=None, registry=None):
+    """The line or lines of each command of a script, by a registry with this fault, or by this one."""
     registry = registry or Registry(fault)
     commands = (line.split() for line in script.splitlines())
-    return "".join(f"{carry_out(registry, words)}\n" for words in commands if words and not words[0].startswith("#"))
+    return [carry_out(registry, words) for words in commands if words and not words[0].startswith("#")]
+
+
+def report_of(script, fault=None, registry=None):
+    return "".join(f"{it}\n" for it in lines_of(script, fault, registry))
 
 
 if __name__ == "__main__":

@@ -23,21 +23,19 @@ PARTS = ("heap", "strings")
 VERDICT = re.compile(r"^logic=.*$", re.M)
 BEGAN = "proved: "
 NAMES = ("processor", "limits", "kit", "verdict", "sources", "commit", "compiled", "object")
-MAKE = "tools/build-archive.sh{} proves and builds it"
+REMEDY = "tools/build-archive.sh proves and builds it"
 
 
 class Fault(Exception):
     pass
 
 
-def said(*words, cwd=ROOT):
-    """The last line that a command prints."""
-    ran = subprocess.run(words, cwd=cwd, stdout=subprocess.PIPE, stderr=subprocess.DEVNULL, text=True, check=True)
-    return ran.stdout.strip().splitlines()[-1]
+def said(*words):
+    return subprocess.run(words, cwd=ROOT, capture_output=True, text=True, check=True).stdout.strip()
 
 
-def sum_of(path):
-    return hashlib.sha256(pathlib.Path(path).read_bytes()).hexdigest()
+def sum_of(data):
+    return hashlib.sha256(data).hexdigest()
 
 
 def proved():
@@ -46,27 +44,23 @@ def proved():
     return [ROOT / "crates.txt", *(it for folder in folders for it in sorted(folder.rglob("*")) if it.is_file())]
 
 
-def sum_of_sources(limits):
-    """The sum of all that an archive with these limits is made from: also the headers, and the files in C that are joined with what is proved."""
-    headers = sorted((ROOT / "crates" / LIBRARY / "include").glob("*.h"))
-    return sum_of_files([*proved(), *headers, *(ROOT / f"c/src/{part}.c" for part in PARTS)], limits)
+def sources():
+    """All that it is made from: also the headers, and the files in C that are joined with what is proved."""
+    return [*proved(), *sorted((ROOT / "crates" / LIBRARY / "include").glob("*.h")), *(ROOT / f"c/src/{it}.c" for it in PARTS)]
 
 
 def sum_of_files(files, limits):
     """The sum of these, where the file of limits has this text."""
-    whole = hashlib.sha256()
-    for path in files:
-        name = str(path.relative_to(ROOT))
-        whole.update(f"{name} {hashlib.sha256(limits.encode()).hexdigest() if name == chosen.LIMITS else sum_of(path)}\n".encode())
-    return whole.hexdigest()
+    texts = {str(it.relative_to(ROOT)): it.read_bytes() for it in files}
+    texts[chosen.LIMITS] = limits.encode()
+    return sum_of("".join(f"{name} {sum_of(text)}\n" for name, text in texts.items()).encode())
 
 
 def commit():
     """The tree's commit, and whether a source was changed since; `none` outside a repository."""
     try:
-        made_from = ["crates", "crates.txt", *(f"c/src/{part}.c" for part in PARTS)]
-        changed = subprocess.run(["git", "status", "--porcelain", "--", *made_from], cwd=ROOT, capture_output=True, text=True, check=True).stdout
-        return said("git", "rev-parse", "HEAD") + (", with changes" if changed.strip() else "")
+        changed = said("git", "status", "--porcelain", "--", "crates", "crates.txt", *(f"c/src/{part}.c" for part in PARTS))
+        return said("git", "rev-parse", "HEAD") + ", with changes" * bool(changed)
     except (OSError, subprocess.CalledProcessError):
         return "none"
 
@@ -76,23 +70,22 @@ def begin(limits):
 
 
 def write(processor, limits, log, compiled, built):
-    lines = pathlib.Path(log).read_text(errors="replace")
-    verdicts = VERDICT.findall(lines)
-    if not verdicts or not verdicts[-1].startswith("logic=proved "):
+    lines, text = pathlib.Path(log).read_text(errors="replace"), pathlib.Path(limits).read_text()
+    verdict = VERDICT.findall(lines)[-1:]
+    if not verdict or not verdict[0].startswith("logic=proved "):
         raise Fault(f"{log} has no last line that begins 'logic=proved': what was built isn't proved")
-    of, text = " ".join(chosen.words_of(limits)), pathlib.Path(limits).read_text()
     if not lines.startswith(f"{BEGAN}{sum_of_files(proved(), text)}\n"):
         raise Fault(f"{log} is of a proof that began with other sources than those that stand")
-    texts = (processor, of, said("rt", "version"), verdicts[-1], sum_of_sources(text), commit(), sum_of(compiled), sum_of(built))
-    for name, text in zip(NAMES, texts):
-        print(f"{name}: {text}")
+    sums = (sum_of(pathlib.Path(it).read_bytes()) for it in (compiled, built))
+    of = " ".join(chosen.words_of(limits))
+    for pair in zip(NAMES, (processor, of, said("rt", "version"), *verdict, sum_of_files(sources(), text), commit(), *sums)):
+        print(": ".join(pair))
 
 
 def read(path):
     """The record at that path."""
     pairs = dict(line.split(": ", 1) for line in path.read_text().splitlines() if ": " in line)
-    lacking = [name for name in NAMES if not pairs.get(name)]
-    if lacking:
+    if lacking := [name for name in NAMES if not pairs.get(name)]:
         raise Fault(f"{path} has no line '{lacking[0]}: ..'")
     return pairs
 
@@ -100,41 +93,33 @@ def read(path):
 def sum_in(archive):
     """The sum of the one object that the archive has."""
     listed, whole = (subprocess.run(["ar", *words], capture_output=True) for words in (("t", archive), ("p", archive, "kupaldiz.o")))
-    if listed.stdout.split() != [b"kupaldiz.o"] or whole.returncode != 0:
+    if listed.stdout.split() != [b"kupaldiz.o"]:
         raise Fault(f"{archive} has no object kupaldiz.o, or another one beside it")
-    return hashlib.sha256(whole.stdout).hexdigest()
-
-
-def flags(archive):
-    """How tools/build-archive.sh is called for an archive that lies there: in out, in a folder of a processor's, in one of a build's, or in both."""
-    names = str(archive.parent).rpartition("out")[2].split("/")[1:]
-    return "".join(re.sub(r"(?:^|-)([a-z]+)-(\d+)", r" --\1 \2", it) if "-" in it else f" --for {it}" for it in names)
+    return sum_of(whole.stdout)
 
 
 def check(name):
     archive = pathlib.Path(name)
     path = archive.with_name(archive.name.replace("_proved.a", ".proved"))
-    remedy = MAKE.format(flags(archive))
     for needed in (archive, path):
         if not needed.is_file():
-            raise Fault(f"there is no {needed}: {remedy}")
+            raise Fault(f"there is no {needed}: {REMEDY}")
     record = read(path)
     if sum_in(archive) != record["object"]:
-        raise Fault(f"{archive} isn't the archive that {path} tells of: {remedy}")
+        raise Fault(f"{archive} isn't the archive that {path} tells of: {REMEDY}")
     of = chosen.wanted(record["limits"].split())
     if chosen.name(of) not in ("", archive.parent.name):
-        raise Fault(f"{archive} has other limits than the sources as they stand: {remedy}")
-    if record["sources"] != sum_of_sources(chosen.file(of)):
-        raise Fault(f"{archive} was made from other sources than those that stand: {remedy}")
+        raise Fault(f"{archive} has other limits than the sources as they stand: {REMEDY}")
+    if record["sources"] != sum_of_files(sources(), chosen.file(of)):
+        raise Fault(f"{archive} was made from other sources than those that stand: {REMEDY}")
 
 
-def main(words):
-    uses = {"begin": (begin, 1), "write": (write, 5), "check": (check, 1), "parts": (lambda: print(*PARTS), 0)}
-    if not words or words[0] not in uses or len(words) != 1 + uses[words[0]][1]:
-        print("usage: proof-record.py begin LIMITS | write PROCESSOR LIMITS LOG COMPILED OBJECT | check ARCHIVE | parts", file=sys.stderr)
-        return 2
+def main(use="", *words):
+    uses = {"begin": begin, "write": write, "check": check, "parts": lambda: print(*PARTS)}
+    if use not in uses:
+        sys.exit(__doc__)
     try:
-        uses[words[0]][0](*words[1:])
+        uses[use](*words)
     except (Fault, chosen.Fault, OSError) as fault:
         print(f"proof-record: {fault}", file=sys.stderr)
         return 2
@@ -142,4 +127,4 @@ def main(words):
 
 
 if __name__ == "__main__":
-    sys.exit(main(sys.argv[1:]))
+    sys.exit(main(*sys.argv[1:]))

@@ -1,19 +1,20 @@
 #!/usr/bin/env -S python3 -B
 """Runs the examples of the documents over both engines, and compares what the program says.
 
-An example is a fenced block `script`, and the next fenced block after it: `report`, what the program must print, with nothing on standard error and status 0;
-or `fault`, what it must say on standard error, with nothing printed and status 2. A block `session` has both, a command and after two spaces its line of the
-report. A file NAME.txt is one example, with its report as comments below `# It prints:`. Without file names the examples are those of README.md, docs/ and
-examples/. The program is ./registry_run, or the one that --program names. It must be the proved one (tools/prove-program.sh), since without it ./registry_run
-says on standard error that nothing is proved. With --try nothing is proved either: `rt try` compiles the program anew for each engine. The last line counts the
-runs.
+    tools/run-examples.py [--program PROGRAM | --try] [FILE]..
+    tools/run-examples.py --steps PAGE
+
+An example is a fenced block `script`, and the block after it: `report`, what the program must print, with nothing on standard error and status 0; or `fault`, what
+it must say on standard error, with nothing printed and status 2. A block `session` has both, a command and after two spaces its line of the report. A file
+NAME.txt is one example, with its report as comments below `# It prints:`. Without FILE the examples are those of README.md, docs/ and examples/. The program is
+./registry_run, which says on standard error if it isn't the proved one (tools/prove-program.sh), or PROGRAM; with --try `rt try` compiles it, without a proof, for
+each engine. The last line counts the runs.
 
 With --steps a page's steps are run instead: each block `sh` with a block `text` right after it, which is what its commands print at the top of the tree, on
 both streams; the number of a thread may be another one. The tutorial for C needs out/libkupaldiz_proved.a.
 
 Code in the documents must be part of a source, up to blank lines; what isn't is said, and fails. A fenced block `rust` is looked for in
-crates/registry_examples/src and in rust/examples, a block `c` in c or netbsd/tests. A block `LANGUAGE PATH` is looked for
-in that file alone, whatever the language.
+crates/registry_examples/src and in rust/examples, a block `c` in c, netbsd/tests or docs/tutorial, a block `LANGUAGE PATH` in that file alone.
 """
 import argparse
 import pathlib
@@ -24,65 +25,48 @@ from engines import ROOT, ran, said_when_tried
 from checks import counted
 
 ENGINES = ("core", "live")
-# What is above the report in a file of its script.
-REPORT = "\n# It prints:\n"
+FENCE = re.compile(r"^```([^\n]*)\n(.*?)^```$", re.MULTILINE | re.DOTALL)
 WANTED = {"report": lambda text: (0, text, ""), "fault": lambda text: (2, "", text)}
-SOURCES = {
-    "rust": [*sorted((ROOT / "crates/registry_examples/src").glob("*.rt")), *sorted((ROOT / "rust/examples").glob("*.rs"))],
-    "c": [path for folder in ("c", "netbsd/tests", "docs/tutorial") for path in sorted((ROOT / folder).rglob("*.c"))],
-}
-PAGES = [ROOT / "README.md", ROOT / "rust/README.md", *sorted((ROOT / "docs").glob("*.md"))]
+SOURCES = {"rust": ("crates/registry_examples/src/*.rt", "rust/examples/*.rs"), "c": ("c/**/*.c", "netbsd/tests/**/*.c", "docs/tutorial/**/*.c")}
+PAGES = [ROOT / "README.md", *sorted((ROOT / "docs").glob("*.md"))]
 STEP = re.compile(r"^```sh\n(.*?)^```\n```text\n(.*?)^```$", re.MULTILINE | re.DOTALL)
 THREAD = re.compile(r"\bthread \d+")
-FILES = [ROOT / "README.md", *sorted((ROOT / "docs").glob("*.md")), *sorted((ROOT / "examples").glob("*.txt"))]
 
 
-def blocks(text):
-    """The line, the word and the text of each fenced block."""
-    word, body = None, []
-    for number, line in enumerate(text.split("\n"), 1):
-        if not line.startswith("```"):
-            if word is not None:
-                body.append(line + "\n")
-        elif word is None:
-            start, word, body = number, line[3:], []
-        else:
-            yield start, word, "".join(body)
-            word = None
+def blocks(path):
+    """The place, as scripts-70 for line 70 of SCRIPTS.md, the word and the text of each fenced block."""
+    text = path.read_bytes().decode()
+    for found in FENCE.finditer(text):
+        yield f"{path.stem.lower()}-{text.count(chr(10), 0, found.start()) + 1}", found[1], found[2]
 
 
 def examples(path):
-    """The place, as scripts-70 for line 70 of SCRIPTS.md, the script, the word and the text of the answer of each example."""
+    """The place, the script, the word and the text of the answer of each example."""
     if path.suffix == ".txt":
-        script, _, report = path.read_bytes().decode().partition(REPORT)
+        script, _, report = path.read_bytes().decode().partition("\n# It prints:\n")
         yield path.stem, script, "report", report.replace("\n# ", "\n").removeprefix("# ")
         return
-    waiting = None
-    for line, word, text in blocks(path.read_bytes().decode()):
+    none = ("", "", "")
+    found = [none, *blocks(path), none]
+    for (place, word, text), (after, answers, answer) in zip(found, found[1:]):
+        if (word == "script") != (answers in WANTED):
+            sys.exit(f"{path.name}: {place or after}: a script without a report or a fault after it, or one of these without a script")
+        if word == "script":
+            yield place, text, answers, answer
         if word == "session":
-            pairs = [re.split(" {2,}", pair, maxsplit=1) for pair in text.splitlines()]
-            yield f"{path.stem.lower()}-{line}", "".join(f"{pair[0]}\n" for pair in pairs), "report", "".join(f"{pair[-1]}\n" for pair in pairs)
-        if waiting and word not in WANTED:
-            break
-        if waiting:
-            yield f"{path.stem.lower()}-{waiting[0]}", waiting[1], word, text
-        elif word in WANTED:
-            sys.exit(f"{path.name}:{line}: a {word} without a script before it")
-        waiting = (line, text) if word == "script" else None
-    if waiting:
-        sys.exit(f"{path.name}:{waiting[0]}: a script without a report or a fault after it")
+            pairs = [re.split(" {2,}", line, maxsplit=1) for line in text.splitlines()]
+            yield place, "".join(f"{pair[0]}\n" for pair in pairs), "report", "".join(f"{pair[-1]}\n" for pair in pairs)
 
 
 def strayed():
     """What is said of each part of code in the documents that is in no source."""
-    for page in PAGES:
-        for line, word, text in blocks(page.read_text()):
-            path = word.partition(" ")[2]
-            files = [ROOT / path] if path else SOURCES.get(word, [])
-            sources = [file.read_text() for file in files if file.is_file()]
-            for part in text.split("\n\n") if path or word in SOURCES else []:
-                if not any(part.strip("\n") in source for source in sources):
-                    yield f"{page.name}:{line}: no example has this code\n{part}"
+    for page in [*PAGES, ROOT / "rust/README.md"]:
+        for place, word, text in blocks(page):
+            language, _, path = word.partition(" ")
+            forms = [path] if path else SOURCES.get(language, [])
+            sources = [file.read_text() for form in forms for file in ROOT.glob(form)]
+            parts = text.split("\n\n") if forms else []
+            yield from (f"{place}: no example has this code\n{it}" for it in parts if not any(it.strip("\n") in source for source in sources))
 
 
 def runs(found, program):
@@ -108,12 +92,13 @@ def main():
     parser.add_argument("--program", default=ROOT / "registry_run", type=pathlib.Path, help="the program that is run")
     parser.add_argument("--try", dest="tried", action="store_true", help="compile by rt try, without proofs")
     parser.add_argument("--steps", type=pathlib.Path, metavar="PAGE", help="run the steps of a page")
-    parser.add_argument("files", nargs="*", type=pathlib.Path, default=FILES)
+    parser.add_argument("files", nargs="*", type=pathlib.Path, default=[*PAGES, *sorted((ROOT / "examples").glob("*.txt"))])
     options = parser.parse_args()
     if options.steps:
-        sys.exit(counted(steps(options.steps)))
+        return counted(steps(options.steps))
     found = [example for path in options.files for example in examples(path)]
-    sys.exit(counted([*strayed(), *runs(found, None if options.tried else options.program.resolve())]))
+    return counted([*strayed(), *runs(found, None if options.tried else options.program.resolve())])
 
 
-main()
+if __name__ == "__main__":
+    sys.exit(main())

@@ -3,11 +3,9 @@
 
     tools/run-tests.py GROUP.. [--named WORD..]    all tests of these groups, or those that a word names
 
-A group is a label of ctest's: page, build, c, watched, heap, netbsd, explorer, rust, rust-watched, aarch64,
-documents, tools, tutorial, program or unproved.
-tools/tests/CMakeLists.txt says how to run one test by name. A test is one check, or as many as it
-counts. One that isn't run, as its program is missing or what it needs failed, is a failure. The last
-line is 'N passed, M failed'.
+A group is a label of ctest's: docs/GATE.md lists them, and says how to run one test by name. A test is
+one check, or as many as it counts. One that isn't run, as its program is missing or what it needs failed,
+is a failure. The last line is 'N passed, M failed'.
 """
 import pathlib
 import re

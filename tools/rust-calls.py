@@ -4,18 +4,19 @@
     tools/rust-calls.py write     writes it
     tools/rust-calls.py check     writes nothing; it ends with 'N passed, M failed'
 """
+import importlib
 import re
 import sys
 import textwrap
 
 from checks import ROOT, counted
 
+pages = importlib.import_module("header-pages")
+
 HEADER = ROOT / "crates/registry_c/include/kupaldiz.h"
 MADE = ROOT / "rust/src/calls.rs"
-RESULT = r"((?:enum kupaldiz_result|const char|void) \*?)"
-CALL = re.compile(rf"^{RESULT}(kupaldiz_\w+)\(([^()]*)\)", re.M)
-PARAMETER = re.compile(r"(.*?)\s*(\w+)")
 TYPE = re.compile(r"(const )?(?:(enum|struct) )?(\w+) ?(\*?)")
+PARAMETER = re.compile(r"(.*?)\s*(\w+)")
 WORDS = {"uint64_t": "u64", "size_t": "usize", "void": "c_void", "char": "c_char"}
 
 
@@ -29,41 +30,31 @@ def typed(of):
     return (f"*{'const' if constant else 'mut'} " if star else "") + plain
 
 
-def declared(result, name, parameters):
+def declared(call):
     """A call as Rust declares it."""
-    each = [it for it in " ".join(parameters.split()).split(", ") if it != "void"]
-    given = [PARAMETER.fullmatch(it).groups() for it in each]
-    given = ", ".join(f"{name}: {typed(of)}" for of, name in given)
-    result = "" if result == "void " else f" -> {typed(result.strip())}"
-    lines = textwrap.wrap(f"fn {name}({given}){result};", 96, subsequent_indent="    ")
-    return "\n".join(f"    {line}" for line in lines)
+    each = [PARAMETER.fullmatch(it).groups() for it in call.parameters if it != "void"]
+    given = ", ".join(f"{name}: {typed(of)}" for of, name in each)
+    result = "" if call.result == "void" else f" -> {typed(call.result)}"
+    return textwrap.fill(f"fn {call.name}({given}){result};", 100, initial_indent="    ", subsequent_indent="        ")
 
 
 def made():
-    text = re.sub(r"/\*.*?\*/", "", HEADER.read_text(), flags=re.S)
-    calls = CALL.findall(text)
-    of_registry = [declared(*it) for it in calls if it[0].startswith("enum")]
-    texts = [declared(*it) for it in calls if not it[0].startswith("enum")]
-    constants = []
-    for enum in ("result", "kind", "stage"):
-        body = re.search(rf"enum kupaldiz_{enum} {{(.*?)}};", text, re.S)[1]
-        values = re.findall(r"KUPALDIZ_(\w+) = (\d+)", body)
-        constants += [f"    {name} = {value};" for name, value in values]
+    text = HEADER.read_text()
+    bodies = (pages.only(rf"^enum kupaldiz_{enum} {{(.*?)}};", text)[1] for enum in ("result", "kind", "stage"))
+    parts = {"constants": [f"    {it};" for body in bodies for it in re.findall(r"KUPALDIZ_(\w+ = \d+)", body)], "calls": [], "texts": []}
+    for call in pages.calls_in(text):
+        parts["calls" if call.result.startswith("enum") else "texts"].append(declared(call))
     head = "// Made of kupaldiz.h by tools/rust-calls.py. ffi.rs and common/watched.rs have the macros.\n"
-    parts = (("constants", constants), ("calls", of_registry), ("texts", texts))
-    made_of = [f"\n{name}! {{\n" + "\n".join(lines) + "\n}\n" for name, lines in parts]
-    return head + "".join(made_of)
+    return head + "".join(f"\n{name}! {{\n" + "\n".join(lines) + "\n}\n" for name, lines in parts.items())
 
 
 def main(words):
     if words not in (["write"], ["check"]):
-        print(__doc__.split("\n\n")[1], file=sys.stderr)
-        return 2
+        sys.exit(__doc__)
     if words == ["write"]:
         MADE.write_text(made())
     is_made = MADE.exists() and MADE.read_text() == made()
-    fault = "rust/src/calls.rs isn't what is made of kupaldiz.h: tools/rust-calls.py write makes it"
-    return counted(["" if is_made else fault])
+    return counted(["" if is_made else "rust/src/calls.rs isn't what is made of kupaldiz.h: tools/rust-calls.py write makes it"])
 
 
 if __name__ == "__main__":
