@@ -154,7 +154,7 @@ pub record IsWholeIn {z : Settings} {k : KeeperView} {log : List LogItem} {last 
   pub shown : CpuShown (after (opening z) run.events) x
   pub known : IsPrefix known_log log
   pub seen : IsPrefix x.pass k.history
-  -- it has just the passive references that its log says
+  -- it has exactly the passive references that its log says
   pub references : (n : ℕ) → passive_by n did ≡ references_to n x.references
 
 -- one list for the keeper and for each CPU that it took over

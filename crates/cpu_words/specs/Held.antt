@@ -51,7 +51,8 @@ passive_by n log = passive_from n None 0 log
 abbrev pub HoldsBy : ℕ → List LogItem → Type 0
 HoldsBy n log = HasFoundInside n log ⊎ (0 < passive_by n log)
 
--- Where an event of the list frees a slot, the entry that has the slot by the keeper's log until then is none that the CPU at this seat holds, by that CPU's log until then.
+-- Where an event of the list frees a slot, the CPU at this seat doesn't hold the slot's entry. Which
+-- entry that is, the keeper's log until then says; what the CPU holds, its own log until then.
 abbrev pub KeepsHeld : ℕ → List (ℕ × LogItem) → Type 0
 KeepsHeld seat acts = (first rest : List (ℕ × LogItem)) (freed : ℕ × LogItem) (t n : ℕ) → acts ≡ first ++ freed ∷ rest → destroyed_slot freed.1.event ≡ Some t → occupant t (part 0 first) ≡ Some n
     → HoldsBy n (part seat first) → ⊥
@@ -113,7 +114,7 @@ FreesNoLocals seat cpus acts = (first rest : List (ℕ × LogItem)) (freed : ℕ
 abbrev pub local_references : State → ℕ → ℕ
 local_references s n = sum_by (standing_of n) s.locals + sum_by (in_hand n) s.hands + sum_by (kept_of n) s.keeps
 
--- After each number of events of the list, the logs until then count just the references that there are.
+-- After each number of events of the list, the logs until then count exactly the references that there are.
 pub record CountExactly (z : Settings) (events : List Event) (seat : ℕ → ℕ) (acts : List (ℕ × LogItem)) : Type 0 where
   -- each CPU's log its passive references
   pub passive : (i c n : ℕ) → c < (after (opening z) events).seated → passive_by n (part (seat c) (take i acts)) ≡ (picture (after (opening z) (take i events))).passive c n

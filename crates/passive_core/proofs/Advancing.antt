@@ -1,9 +1,9 @@
 -- What looks, collections and the end of a slot's use tell and leave.
-use Rattle.std.proofs.Common.{◌≡◌, ℕ, zero, suc, ◌+◌, ◌-◌, ◌%◌, ◌<◌, ◌⊎◌, inl, inr, List, [], length, get_or, set, Option, Some, None, Bool, true, false, not, ◌&&◌, ◌||◌, ◌==◌, Result, Ok, refl, sym, ap, subst, ◌∙◌, arith, nat_lt, get_or-set_same, get_or-set_other, add-zero, IsSome}
+use Rattle.std.proofs.Common.{◌≡◌, ℕ, zero, suc, ◌+◌, ◌-◌, ◌%◌, ◌<◌, ◌⊎◌, inl, inr, List, [], length, get_or, set, Option, Some, None, Bool, true, false, not, ◌&&◌, ◌||◌, ◌==◌, Ok, refl, sym, ap, subst, ◌∙◌, arith, nat_lt, get_or-set_same, get_or-set_other, add-zero, IsSome}
 use Rattle.std.specs.Prelude.{is_some, is_none}
 use Rattle.std.proofs.lemmas.Bool.{cases_lt, cases_eq, eqb-true, eq-eqb, lt-ltb, ne_eqb, cases_Bool, and_from}
 use Rattle.std.proofs.lemmas.Option.{none-some, same_Some}
-use Rattle.passive_core.specs.Types.{Entry, Look, PassiveLook, Collect, TotalAdd, KeptSub, Reply, Done, Mark, Slot, Retired, Refusal, Stage, Grace, Passive, Local, Freed}
+use Rattle.passive_core.specs.Types.{Entry, Look, PassiveLook, Collect, TotalAdd, KeptSub, Reply, Done, Mark, Slot, Retired, Stage, Grace, Passive, Local, Freed}
 use Rattle.passive_core.specs.Common.{AdvanceLeaves, Settles, Empties, Gathers, HoldersAreOpen, LeavesMarks, MarksPass, Passes, ClearBelow, Clears, MarksClear, SameBut, StageMarks, AdvanceMarks, StageLeaves, advance_answer, count_given_up, has_passive, is_open_since, is_snapshot, first_obstacle, stage_in, may_act}
 use Rattle.protocol.specs.Common.{AllClear, AllCollected, AllPassed, MarksGrow, Outcome, Holds, one_if, held_at, at_rest, State, section_at, begin_at, count_at, kept_at, mark_at, passive_at, total_at, with_cell}
 use Rattle.protocol.specs.Events
@@ -16,6 +16,7 @@ use Rattle.protocol.proofs.Cells.{cell_other, clear_from, collected_from, mark_g
 use Rattle.protocol.proofs.keeps.Searching.{within_some}
 use Rattle.std.proofs.lemmas.List.{set-get_or}
 use Rattle.registry_values.proofs.Slots.{least_agrees, least_is, none_below}
+use Rattle.registry_values.proofs.Answers.{same_Ok}
 use Rattle.passive_core.proofs.Entering.{made_is}
 use Rattle.protocol.proofs.Either.{either}
 
@@ -509,9 +510,6 @@ marks_of_turns s m n t (Passive c) x y = record {
   above = λ d lt. y.above d lt ∙ x.above d lt;
 }
 marks_of_turns s m n t _ x y = y
-
-pub same_Ok : (a b : Stage) → ◌≡◌ {A = Result Stage Refusal} (Ok a) (Ok b) → a ≡ b
-same_Ok a b is = cc
 
 -- the answer is the same the next time, where nothing was freed
 pub answer_again : (s m : State) (number : ℕ) (stage : Stage) → is_freed stage ≡ false → Ok stage ≡ advance_answer s number → AdvanceLeaves s m number (Ok stage)

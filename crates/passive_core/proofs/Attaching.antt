@@ -14,6 +14,7 @@ use Rattle.registry_values.proofs.Answers as answers
 use Rattle.registry_values.proofs.Fit.{ranges}
 use Rattle.registry_values.proofs.Names.{names_are_keys}
 use Rattle.registry_values.proofs.Slots.{key_same, live_tells}
+use Rattle.registry_values.proofs.Answers.{same_Err}
 use Rattle.protocol.specs.Common.{with_biases, at_rest, State, kept_at, local_at, no_words, row_at, total_at, Outcome, Holds, SeatsShow, DueHolds, section_at}
 use Rattle.protocol.specs.Events
 use Rattle.protocol.proofs.keeps.CountKeeps.{keep_keeps}
@@ -364,9 +365,6 @@ place_live s key t x on at is not_live =
     let found = place_lookup s key t on at in
     not_live found.0 (is ∙ found.1)
 
-same_refusal : (f g : Refusal) → ◌≡◌ {A = Result Entry Refusal} (Err f) (Err g) → f ≡ g
-same_refusal f g q = cc
-
 -- the entry that a lookup found is live
 pub found_live : (s : State) (found : Option Entry) (e : Entry) → found ≡ Some e → IfSome found (λ f. slot_at s.slots f.slot ≡ Live f) → slot_at s.slots e.slot ≡ Live e
 found_live s found e is live = subst (λ (o : Option Entry). IfSome o (λ f. slot_at s.slots f.slot ≡ Live f)) is live
@@ -374,8 +372,8 @@ found_live s found e is live = subst (λ (o : Option Entry). IfSome o (λ f. slo
 -- a detach is refused inside a section, or where the lookup finds nothing
 pub refused_rightly : (s : State) (c : ℕ) (key : Key) (inside : Bool) (found : Option Entry) (f : Refusal) → Events.is_inside s c ≡ inside → IsLookupNow s key found
     → ◌≡◌ {A = Result Entry Refusal} (Err f) (detach_answer inside found) → IsDetachRefusal s c key f
-refused_rightly s c key true found f in_section lookup is = subst (IsDetachRefusal s c key) (same_refusal Inside f (sym is)) in_section
-refused_rightly s c key false None f outside lookup is = subst (IsDetachRefusal s c key) (same_refusal NotFound f (sym is)) (outside, lookup)
+refused_rightly s c key true found f in_section lookup is = subst (IsDetachRefusal s c key) (same_Err Inside f (sym is)) in_section
+refused_rightly s c key false None f outside lookup is = subst (IsDetachRefusal s c key) (same_Err NotFound f (sym is)) (outside, lookup)
 refused_rightly s c key false (Some e) f outside lookup is = absurd (let q : ◌≡◌ {A = Result Entry Refusal} (Err f) (Ok e) = is in cc)
 
 -- one more mark of a row whose first k are the snapshots

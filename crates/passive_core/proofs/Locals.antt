@@ -6,7 +6,7 @@ use Rattle.std.proofs.lemmas.List.{get_or_append_left, get_or_past, get_or_push,
 use Rattle.std.proofs.lemmas.List.Sums.{position_or_len_is, sum_by_push}
 use Rattle.std.proofs.lemmas.List.Quantifiers.{position-Some}
 use Rattle.std.proofs.lemmas.List.Folds.{position_or_len_push}
-use Rattle.std.proofs.lemmas.Bool.{and_parts, cases_eq, cases_lt, eq-eqb, lt-ltb, le-ltb}
+use Rattle.std.proofs.lemmas.Bool.{and_parts, cases_eq, cases_lt, eq-eqb, lt-ltb, le-ltb, false_from_ne_true}
 use Rattle.passive_core.specs.Types.{Entry, CountAdd, SplitRef, JoinRef, CountDown, SplitBack, JoinKeeper, TotalSub, Reply, Done, Word, Ref, Collected, Hand, Empty, Taking, Giving, Back, LocalPlace, Free, Standing, Lifted}
 use Rattle.protocol.specs.Common.{State, count_at, found_at, hand_at, local_at, mark_at, row_at, search_at, total_at, at_rest, is_empty, Outcome, Holds, standing_of}
 use Rattle.protocol.specs.Events
@@ -39,13 +39,9 @@ none_from (Some x) off = absurd (off x refl)
 
 -- A list of places with a free one added.
 
-not_true : (b : Bool) → (b ≡ true → ⊥) → b ≡ false
-not_true true off = absurd (off refl)
-not_true false off = refl
-
 end_of : (locals : List LocalPlace) → position Events.is_free locals ≡ None → position_or_len Events.is_free locals ≡ length locals
 end_of locals none = position_or_len_is Events.is_free locals (length locals) Free (omega arith)
-    (λ k lt. not_true (Events.is_free (get_or locals k Free)) (λ passes. position_fails Events.is_free locals k Free none lt passes))
+    (λ k lt. false_from_ne_true (Events.is_free (get_or locals k Free)) (λ passes. position_fails Events.is_free locals k Free none lt passes))
     (λ (lt : length locals < length locals). absurd (omega (arith, lt)))
 
 free_end : (locals : List LocalPlace) → position Events.is_free locals ≡ None → position Events.is_free (locals ++ Free ∷ []) ≡ Some (length locals)

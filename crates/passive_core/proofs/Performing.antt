@@ -90,7 +90,7 @@ retired_found s t n on gone is =
 -- Where no hand tries to get a reference, a turn meets who holds the entry.
 
 -- where a CPU is clear if its word is 0, the word says whether it has a passive reference
-counts_some : (w : ℕ) (clear : Bool) → (clear ≡ true → w ≡ 0) → (nat_lt 0 w && not clear) ≡ nat_lt 0 w
+pub counts_some : (w : ℕ) (clear : Bool) → (clear ≡ true → w ≡ 0) → (nat_lt 0 w && not clear) ≡ nat_lt 0 w
 counts_some w true none = clear_none (nat_lt 0 w) true refl ∙ sym (ap (nat_lt 0) (none refl))
 counts_some w false none = unclear_some (nat_lt 0 w) false refl
 

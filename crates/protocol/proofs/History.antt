@@ -231,7 +231,7 @@ one_live h legal k e f le lf same = one_alike h legal k e f le lf (inl same)
 pub one_rank : (h : List Change) → IsLegal h → (k : ℕ) (e f : Entry) → IsLiveAt h k e → IsLiveAt h k f → rank_at h e.number ≡ rank_at h f.number → e ≡ f
 one_rank h legal k e f le lf same = one_alike h legal k e f le lf (inr same)
 
--- Who stands in a place now, stood there before, or another of the same kind and name did.
+-- Whoever is in a place now was there before, or another of the same kind and name was.
 
 -- an entry that was live after k changes has e's rank, and its kind and name
 pub record Stood (h : List Change) (k : ℕ) (e : Entry) : Type 0 where
@@ -297,9 +297,6 @@ none_at_end h legal (suc p) e f att x lf same =
 -- What one more change keeps.
 pub ends_old : (h : List Change) (c : Change) (n p : ℕ) → EndsAt h n p → EndsAt (after_change h c) n p
 ends_old h c n p x = ap ended_by (at_old h c p (ended_within h n p x).1) ∙ x
-
-pub ends_was : (h : List Change) (c : Change) (n p : ℕ) → EndsAt (after_change h c) n p → p ≤ length h → EndsAt h n p
-ends_was h c n p x le = ap ended_by (sym (at_old h c p le)) ∙ x
 
 pub attached_old : (h : List Change) (c : Change) (e : Entry) → IsAttached h e → IsAttached (after_change h c) e
 attached_old h c e a = ap brought_by (at_old h c e.number (attached_within h e a).1) ∙ a
@@ -401,7 +398,8 @@ found_old z h x section begins depths seen found s hold c e is =
 
 -- What a walk over links finds is lawful.
 
--- What a link tells that leads to the entry with the greatest rank below n that was live at some point, where the walk goes from `from`, and the pass ends at `to` now.
+-- What a link tells that leads to the entry with the greatest rank below n that was live at some
+-- point. The walk goes from `from`, and the pass ends at `to` now.
 pub data Ahead (h : List Change) (from to : ℕ) (key : Key) (n : ℕ) : ℕ → Type 0 where
   No_more : AllBelow h from to key 0 → Ahead h from to key n 0
   One_more : (e : Entry) → StandsOn h from to e.slot e → rank_at h e.number < n → AllBelow h from to key (suc (rank_at h e.number)) → Ahead h from to key n (suc e.slot)
@@ -478,7 +476,7 @@ pub record IsGone (h : List Change) (from to : ℕ) (key : Key) : Type 0 where
   pub attached : IsAttached h entry
   pub same : key_of entry ≡ key
 
-stays : (h : List Change) (k : ℕ) (g : Entry) → IsLiveAt h k g → (EndsAt h g.number (suc k) → ⊥) → IsLiveAt h (suc k) g
+pub stays : (h : List Change) (k : ℕ) (g : Entry) → IsLiveAt h k g → (EndsAt h g.number (suc k) → ⊥) → IsLiveAt h (suc k) g
 stays h k g live off = record {
   attached = live.attached;
   begun = omega (arith, live.begun);

@@ -32,7 +32,7 @@ rank_by n (Some (Attach e)) = n
 rank_by n (Some (Detach m)) = n
 rank_by n (Some (Replace m r e)) = r
 
--- where the entry with the number n stands on the list: the links lead to ever lower ranks
+-- where the entry with the number n is on the list: the links lead to ever lower ranks
 unfoldable pub rank_at : List Change → ℕ → ℕ
 rank_at h n = rank_by n (change_at h n)
 
@@ -69,7 +69,8 @@ abbrev pub IsLookup : List Change → ℕ → Key → Option Entry → Type 0
 IsLookup h k key None = (e : Entry) → IsLiveAt h k e → key_of e ≡ key → ⊥
 IsLookup h k key (Some e) = IsLiveAt h k e × (key_of e ≡ key)
 
--- w is 0 and no entry is live after all changes of h, or w is a slot plus 1, and the newest entry by rank that is live there has that slot
+-- w is 0, and no entry is live after all changes of h; or w is a slot plus 1, and of those live
+-- there the newest by rank has that slot
 pub record IsNewestAt (h : List Change) (w : ℕ) : Type 0 where
   pub none : w ≡ 0 → (e : Entry) → IsLiveAt h (length h) e → ⊥
   pub newest : (t : ℕ) → w ≡ suc t → (e : Entry) × IsLiveAt h (length h) e × (e.slot ≡ t) × ((f : Entry) → IsLiveAt h (length h) f → rank_at h f.number ≤ rank_at h e.number)

@@ -102,7 +102,7 @@ pub data IsModelStep (MayTake : ℕ → ℕ → Type 0) (m : Model) : Model → 
       → IsModelStep MayTake m (record m { history = after_change m.history (Attach e); occupants = put m.occupants e.slot (Some e.number) })
   Detaches : (n : ℕ) → IsLegal (after_change m.history (Detach n))
       → IsModelStep MayTake m (record m { history = after_change m.history (Detach n) })
-  -- an attach in the place of the entry n, which it ends by the same change
+  -- an attach instead of the entry n, which it ends by the same change
   Replaces : (n r : ℕ) (e : Entry) → m.occupants e.slot ≡ None → IsLegal (after_change m.history (Replace n r e)) → e.number ≡ suc (length m.history) → keeps_rightly (m.keeps e.slot) e.rec.kind ≡ true
       → IsModelStep MayTake m (record m { history = after_change m.history (Replace n r e); occupants = put m.occupants e.slot (Some e.number) })
   -- a slot without an occupant, and keeping nothing, takes over one local reference to a driver

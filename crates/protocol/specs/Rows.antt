@@ -1,9 +1,12 @@
--- Worked rows, event by event: a search along the frozen link of an unlinked entry; a reference given back while its count is collected; references without a section, while their entry is detached
--- and their slot is given again; a search beside a replacement, and one that stands on an entry while it and the next one are replaced; a driver that is detached before its interface.
+-- Worked rows, event by event: a search along the frozen link of an unlinked entry; a reference given
+-- back while its count is collected; references without a section, while their entry is detached and
+-- their slot is reused; a search beside a replacement, and one that is at an entry while it and the
+-- next one are replaced; a driver that is detached before its interface.
 use Rattle.std.specs.Prelude.{◌≡◌, ℕ, ◌+◌, ◌-◌, List, ◌∷◌, [], ◌++◌, replicate, Option, Some, None}
 use Rattle.protocol.specs.Types.{Driver, Iface, Entry, Name, Settings, MOST_CPUS, Attach, Detach, Replace, Vacant, Live, Retired, Mark}
 use Rattle.protocol.specs.declared.event.Event.{Event}
-use Rattle.protocol.specs.declared.event.Event.TheVariants.{Seat, Enter, Exit, Seek, LoadLink, LoadRecord, StoreSlot, StoreNext, Publish, Unpublish, Republish, Tell, Hear, Snapshot, Look, PassiveLook, CountAdd, SplitRef, JoinRef, CountDown, SplitBack, Collect, TotalAdd, JoinKeeper, TotalSub, Keep, KeptSub, Vacate, PassiveAdd, PassiveSub, Show, Hide, Recall, RecallHead, Refind, Try, Confirm, TakeBack}
+use Rattle.protocol.specs.declared.event.Event.TheVariants.{Seat, Enter, Exit, Seek, LoadLink, LoadRecord, Tell, Hear, PassiveAdd, PassiveSub, CountAdd, SplitRef, JoinRef, CountDown, SplitBack, Recall, RecallHead, Refind, Try, Confirm, TakeBack}
+use Rattle.protocol.specs.declared.event.Event.TheVariants.{StoreSlot, StoreNext, Publish, Unpublish, Republish, Snapshot, Look, PassiveLook, Collect, TotalAdd, JoinKeeper, TotalSub, Keep, KeptSub, Vacate, Show, Hide}
 use Rattle.protocol.specs.declared.event.RecordOf.TheVariants.{Search as OfSearch}
 use Rattle.protocol.specs.declared.event.Reply.{Reply}
 use Rattle.protocol.specs.declared.event.Reply.TheVariants.{Done, Word, Found, Ref, Collected}
@@ -221,11 +224,11 @@ head_events = RecallHead 0 ∷ Unpublish 2 ∷ Snapshot (Some 2) 0 ∷ Snapshot 
 abbrev pub refind_events : List Event
 refind_events = Show 2 ∷ Refind 0 2 3 ∷ Enter 0 ∷ Refind 0 2 2 ∷ PassiveAdd 0 3 ∷ Refind 0 2 3 ∷ PassiveAdd 0 3 ∷ PassiveSub 0 3 ∷ Exit 0 ∷ []
 
--- CPU 0 tries a slot for which it is clear, and the slot is freed
+-- CPU 0 is clear for a slot and tries it, and the slot is freed
 abbrev pub free_between : List Event
 free_between = Look (Some 2) 0 ∷ Look (Some 2) 1 ∷ PassiveLook 2 0 ∷ PassiveLook 2 1 ∷ Try 0 2 3 ∷ Confirm 0 ∷ Collect 2 0 ∷ TotalAdd 2 ∷ Collect 2 1 ∷ TotalAdd 2 ∷ Vacate 2 ∷ Confirm 0 ∷ []
 
--- the slot is given again, and no reference to the next occupant is got; its look finds what is tried
+-- the slot is reused, and no reference to the next occupant is got; its look finds what is tried
 abbrev pub give_between : List Event
 give_between = attach_events 1 fourth 2 (StoreSlot 2 5 bias ∷ StoreSlot 2 6 bias ∷ [])
     ++ Show 2 ∷ Confirm 0 ∷ Recall 0 2 ∷ Hide 2 ∷ Unpublish 2 ∷ Snapshot (Some 2) 0 ∷ Snapshot (Some 2) 1 ∷ Look (Some 2) 0 ∷ Look (Some 2) 1 ∷ PassiveLook 2 0 ∷ PassiveLook 2 1 ∷ Collect 2 0 ∷ TakeBack 0 ∷ PassiveLook 2 0
@@ -327,7 +330,7 @@ replace_events e u link =
     StoreSlot e.slot 0 e.number ∷ StoreSlot e.slot 1 (kind_word e.rec.kind) ∷ StoreSlot e.slot 2 e.rec.name.high ∷ StoreSlot e.slot 3 e.rec.name.low ∷ StoreSlot e.slot 4 e.rec.value
     ∷ StoreSlot e.slot 5 bias ∷ StoreSlot e.slot 6 bias ∷ StoreNext e.slot link ∷ Republish e.slot u ∷ Snapshot (Some u) 0 ∷ Snapshot (Some u) 1 ∷ []
 
--- CPU 0 seeks wm0, has compared wm1 and stands on it
+-- CPU 0 seeks wm0, has compared wm1 and is at it
 abbrev pub stands_events : List Event
 stands_events = Enter 0 ∷ Seek 0 Driver wm0 ∷ LoadLink 0 ∷ LoadRecord (OfSearch 0) ∷ LoadRecord (OfSearch 0) ∷ LoadRecord (OfSearch 0) ∷ LoadRecord (OfSearch 0) ∷ []
 

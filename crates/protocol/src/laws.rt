@@ -114,9 +114,9 @@ pub fn narrow_runs()
 /// - `frozen_link`: a search goes on along the frozen link of an unlinked entry.
 /// - `collect_race`: a reference is given back while its count is collected.
 /// - `try_race`: a CPU recalls an entry and gets a passive reference to it without a section; it comes too late for an entry that is
-///   detached meanwhile, and for a slot that is freed and given again. It recalls the head, and finds an entry again in a section alone.
+///   detached meanwhile, and for a slot that is freed and reused. It recalls the head, and finds an entry again in a section alone.
 /// - `replace_race`: a search finds the old entry or the new one as one takes the other's place.
-/// - `replaced_under`: a search stands on an entry while it and the next one are replaced: it goes on along the frozen link.
+/// - `replaced_under`: a search is at an entry while it and the next one are replaced: it goes on along the frozen link.
 /// - `kept_driver`: a detached driver keeps its slot until its interface is freed.
 pub fn worked_run()
     ensures frozen_link { FrozenLink }

@@ -1,9 +1,9 @@
 //! A script, and how it grows line by line.
 
-ghost use Rattle.std.specs.Prelude.{◌≡◌, ◌+◌, ◌<◌, ◌≤◌, ◌^◌, IfOk, IfSome, IfErr, OnErr, IsTrue, Some, None, Ok, length, map};
+ghost use Rattle.std.specs.Prelude.{◌≡◌, ◌+◌, ◌<◌, ◌≤◌, IfOk, IfErr, OnErr, IsTrue, Some, Ok, length, map};
 ghost use Rattle.std.specs.List.{list_all};
 ghost use Rattle.registry_values.specs.Common.{are_usual};
-ghost use Rattle.registry_language.specs.Program.{Program, ProgramDraft, empty_draft, suits, may_follow, with_command, LineTakes, LineGives, ParseGives};
+ghost use Rattle.registry_language.specs.Program.{Program, ProgramDraft, empty_draft, suits, may_follow, with_command, LineTakes, ParseGives};
 ghost use Rattle.registry_language.specs.Grammar.{line_of, draft_of_lines, program_of_draft, program_of_bytes};
 
 use super::command::Command;

@@ -4,15 +4,14 @@ use Rattle.std.proofs.lemmas.Option.{none-some, same_Some, get_or_from_slice_get
 use Rattle.std.proofs.Common.{◌∙◌, ◌≡◌, ℕ, zero, suc, ◌+◌, ◌<◌, List, [], ◌∷◌, length, get_or, Option, Some, None, Bool, true, false, refl, sym, arith, position, sum_by, ◌≤◌, ap, subst, eqb-true}
 use Rattle.std.proofs.lemmas.List.Quantifiers.{position-Some}
 use Rattle.std.proofs.lemmas.List.Sums.{sum_by-cons}
-use Rattle.std.proofs.lemmas.Bool.{cases_eq, eq-eqb}
+use Rattle.std.proofs.lemmas.Bool.{eq-eqb, false_from_ne_true}
 use Rattle.registry_report.specs.Types.{Entry, Change, Attach, Detach, Replace, Key}
 use Rattle.registry_values.specs.Common.{least_below, or_next, key_of, same_key}
 use Rattle.registry_values.proofs.Slots.{least_is, none_below, least_none, key_from, key_same}
 use Rattle.protocol.specs.Common.{kept_of, one_if, kept_at, IsAttached, EndsAt, IsLiveAt, IsLegal, IsLookup, is_number, brought_by, ended_by}
 use Rattle.protocol.specs.History.{change_at}
 use Rattle.protocol.proofs.Cells.{position_fails}
-use Rattle.protocol.proofs.History.{attached_within, ended_within, ends_after, one_end, one_live}
-use Rattle.protocol.proofs.Either.{either}
+use Rattle.protocol.proofs.History.{attached_within, ended_within, ends_after, one_end, one_live, stays}
 use Rattle.passive_core.proofs.Advancing.{least_some}
 use Rattle.registry_report.specs.Common.{count_below, is_this, answer_after, lookup, is_end_of, end_of, place_after, entry_of}
 
@@ -23,12 +22,8 @@ pub same_count : (p q : ℕ → Bool) (n : ℕ) → ((c : ℕ) → c < n → p c
 same_count p q zero same = refl
 same_count p q (suc n) same = rw (same_count p q n (λ c lt. same c (omega arith)), same n (omega arith)) refl
 
-fails : (b : Bool) → (b ≡ true → ⊥) → b ≡ false
-fails true off = absurd (off refl)
-fails false off = refl
-
 position_by : {X : Type 0} (p : X → Bool) (xs : List X) (d : X) (o : Option ℕ) → position p xs ≡ o → o ≡ least_below (λ t. p (get_or xs t d)) (length xs)
-position_by p xs d None at = sym (none_below (λ t. p (get_or xs t d)) (length xs) (λ t lt. fails (p (get_or xs t d)) (position_fails p xs t d at lt)))
+position_by p xs d None at = sym (none_below (λ t. p (get_or xs t d)) (length xs) (λ t lt. false_from_ne_true (p (get_or xs t d)) (position_fails p xs t d at lt)))
 position_by p xs d (Some i) at =
     let first = position-Some p xs i d at in
     sym (least_is (λ t. p (get_or xs t d)) i (length xs) first.0 first.1 first.2)
@@ -73,14 +68,6 @@ least_iff p n c = (λ is. ((least_some p n c is).0, (least_some p n c is).1, lea
 
 -- One change more
 
--- who is live stays so, unless this change is the end
-live_on : (h : List Change) (k : ℕ) (e : Entry) → IsLiveAt h k e → (EndsAt h e.number (suc k) → ⊥) → IsLiveAt h (suc k) e
-live_on h k e live on = record {
-  attached = live.attached;
-  begun = omega (arith, live.begun);
-  unended = λ p x. either (cases_eq p (suc k)) (λ at. absurd (on (subst (EndsAt h e.number) at x))) (λ off. let later : k < p = live.unended p x in omega arith);
-}
-
 -- who is live was so, unless this change is the attach
 live_back : (h : List Change) (k : ℕ) (e : Entry) → IsLiveAt h (suc k) e → (e.number ≡ suc k → ⊥) → IsLiveAt h k e
 live_back h k e live old = record {
@@ -97,7 +84,7 @@ not_here h k e x att is other at = other (ap brought_by (sym is) ∙ (ap (λ (n 
 past_step : (h : List Change) (key : Key) (k : ℕ) (a : Option Entry) (x : Option Change) → change_at h (suc k) ≡ x → ((e : Entry) → brought_by x ≡ Some e → key_of e ≡ key → ⊥)
     → ((e : Entry) → a ≡ Some e → ended_by x ≡ Some e.number → ⊥) → IsLookup h k key a → IsLookup h (suc k) key a
 past_step h key k None x is other lasts was = λ e live same. was e (live_back h k e live (not_here h (suc k) e x live.attached is (λ q. other e q same))) same
-past_step h key k (Some e) x is other lasts was = (live_on h k e was.0 (λ (q : EndsAt h e.number (suc k)). lasts e refl (ap ended_by (sym is) ∙ q)), was.1)
+past_step h key k (Some e) x is other lasts was = (stays h k e was.0 (λ (q : EndsAt h e.number (suc k)). lasts e refl (ap ended_by (sym is) ∙ q)), was.1)
 
 -- one that brings an entry with the key
 new_step : (h : List Change) → IsLegal h → (key : Key) (k : ℕ) (f : Entry) → brought_by (change_at h (suc k)) ≡ Some f → key_of f ≡ key → IsLookup h (suc k) key (Some f)

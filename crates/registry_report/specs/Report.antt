@@ -8,7 +8,8 @@ use Rattle.registry_language.specs.Program.{Program, IsProgram}
 use Rattle.registry_report.specs.declared.hitch.Hitch.{Hitch}
 use Rattle.registry_report.specs.Lines.{domain_line, limits_line, attached_line, retired_line, section_line, found_line, reference_line, held_line, read_line, released_line, counted_line, peek_line, uncounted_line, stage_line, destroyed_line, performed_line, audit_text, hitch_line}
 use Rattle.registry_report.specs.Registry.{Registry, opening_registry, end_of, lookup}
-use Rattle.registry_report.specs.Turns.{command_answer, attach_answer, plug_answer, detach_answer, enter_answer, exit_answer, find_answer, reference_answer, copy_answer, held_answer, read_answer, release_answer, count_answer, peek_answer, uncount_answer, advance_answer, destroy_answer, perform_answer, audit_answer, on_ok, with_attached, after_plug, with_detached, with_section_entered, with_section_exited, with_found, with_reference, without_reference, with_one_counted, with_one_uncounted, after_advance, after_destroy, count_below, is_this}
+use Rattle.registry_report.specs.Turns.{command_answer, on_ok}
+use Rattle.registry_report.specs.Turns
 
 -- the line of an answer, or of why there is none
 abbrev pub answer_line : {X : Type 0} → (X → List ℕ) → Result X Hitch → List ℕ
@@ -19,45 +20,45 @@ answer_line line (Err h) = hitch_line h
 abbrev pub text_of : Registry → Command → List ℕ
 text_of r (Domain cpus slots) = domain_line cpus slots
 text_of r (Limits changes sections passive count) = limits_line changes sections passive count
-text_of r (Attach c rec) = answer_line attached_line (command_answer (attach_answer r c rec))
-text_of r (Plug c rec x) = answer_line attached_line (plug_answer r c rec x.place)
-text_of r (Detach c kind name) = answer_line retired_line (command_answer (detach_answer r c (record { kind = kind; name = name })))
-text_of r (Enter c) = answer_line (λ done. section_line true) (command_answer (enter_answer r c))
-text_of r (Exit c) = answer_line section_line (exit_answer r c)
-text_of r (Find c kind name) = answer_line found_line (find_answer r c (record { kind = kind; name = name }))
-text_of r (Reference c a) = answer_line (reference_line a.place) (reference_answer r c a.place)
-text_of r (Copy c a b) = answer_line (reference_line b.place) (copy_answer r c a.place b.place)
-text_of r (Held c a) = answer_line held_line (held_answer r c a.place)
-text_of r (Read c a) = answer_line (λ x. read_line x.number x.value) (read_answer r c a.place)
-text_of r (Release c a) = answer_line (released_line a.place) (release_answer r c a.place)
-text_of r (Count c x) = answer_line (counted_line x.place) (count_answer r c x.place)
-text_of r (Peek x) = answer_line (λ y. peek_line y.number y.value) (peek_answer r x.place)
-text_of r (Uncount c x) = answer_line (uncounted_line x.place) (uncount_answer r x.place)
-text_of r (Advance n) = answer_line stage_line (command_answer (advance_answer r n))
-text_of r (Destroy c n turns) = answer_line destroyed_line (command_answer (destroy_answer r c n))
-text_of r (Perform c turns) = answer_line (λ done. performed_line) (command_answer (perform_answer r c))
-text_of r Audit = audit_text (audit_answer r)
+text_of r (Attach c rec) = answer_line attached_line (command_answer (Turns.attach_answer r c rec))
+text_of r (Plug c rec x) = answer_line attached_line (Turns.plug_answer r c rec x.place)
+text_of r (Detach c kind name) = answer_line retired_line (command_answer (Turns.detach_answer r c (record { kind = kind; name = name })))
+text_of r (Enter c) = answer_line (λ done. section_line true) (command_answer (Turns.enter_answer r c))
+text_of r (Exit c) = answer_line section_line (Turns.exit_answer r c)
+text_of r (Find c kind name) = answer_line found_line (Turns.find_answer r c (record { kind = kind; name = name }))
+text_of r (Reference c a) = answer_line (reference_line a.place) (Turns.reference_answer r c a.place)
+text_of r (Copy c a b) = answer_line (reference_line b.place) (Turns.copy_answer r c a.place b.place)
+text_of r (Held c a) = answer_line held_line (Turns.held_answer r c a.place)
+text_of r (Read c a) = answer_line (λ x. read_line x.number x.value) (Turns.read_answer r c a.place)
+text_of r (Release c a) = answer_line (released_line a.place) (Turns.release_answer r c a.place)
+text_of r (Count c x) = answer_line (counted_line x.place) (Turns.count_answer r c x.place)
+text_of r (Peek x) = answer_line (λ y. peek_line y.number y.value) (Turns.peek_answer r x.place)
+text_of r (Uncount c x) = answer_line (uncounted_line x.place) (Turns.uncount_answer r x.place)
+text_of r (Advance n) = answer_line stage_line (command_answer (Turns.advance_answer r n))
+text_of r (Destroy c n turns) = answer_line destroyed_line (command_answer (Turns.destroy_answer r c n))
+text_of r (Perform c turns) = answer_line (λ done. performed_line) (command_answer (Turns.perform_answer r c))
+text_of r Audit = audit_text (Turns.audit_answer r)
 
 -- what it leaves
 abbrev pub after : Registry → Command → Registry
 after r (Domain cpus slots) = r
 after r (Limits changes sections passive count) = r
-after r (Attach c rec) = on_ok r (attach_answer r c rec) (with_attached r c)
-after r (Plug c rec x) = after_plug r c x.place (plug_answer r c rec x.place)
-after r (Detach c kind name) = on_ok r (detach_answer r c (record { kind = kind; name = name })) (with_detached r c)
-after r (Enter c) = on_ok r (enter_answer r c) (λ done. with_section_entered r c)
-after r (Exit c) = on_ok r (exit_answer r c) (with_section_exited r c)
-after r (Find c kind name) = on_ok r (find_answer r c (record { kind = kind; name = name })) (with_found r c)
-after r (Reference c a) = on_ok r (reference_answer r c a.place) (with_reference r c a.place)
-after r (Copy c a b) = on_ok r (copy_answer r c a.place b.place) (with_reference r c b.place)
+after r (Attach c rec) = on_ok r (Turns.attach_answer r c rec) (Turns.with_attached r c)
+after r (Plug c rec x) = Turns.after_plug r c x.place (Turns.plug_answer r c rec x.place)
+after r (Detach c kind name) = on_ok r (Turns.detach_answer r c (record { kind = kind; name = name })) (Turns.with_detached r c)
+after r (Enter c) = on_ok r (Turns.enter_answer r c) (λ done. Turns.with_section_entered r c)
+after r (Exit c) = on_ok r (Turns.exit_answer r c) (Turns.with_section_exited r c)
+after r (Find c kind name) = on_ok r (Turns.find_answer r c (record { kind = kind; name = name })) (Turns.with_found r c)
+after r (Reference c a) = on_ok r (Turns.reference_answer r c a.place) (Turns.with_reference r c a.place)
+after r (Copy c a b) = on_ok r (Turns.copy_answer r c a.place b.place) (Turns.with_reference r c b.place)
 after r (Held c a) = r
 after r (Read c a) = r
-after r (Release c a) = on_ok r (release_answer r c a.place) (without_reference r c a.place)
-after r (Count c x) = on_ok r (count_answer r c x.place) (with_one_counted r c x.place)
+after r (Release c a) = on_ok r (Turns.release_answer r c a.place) (Turns.without_reference r c a.place)
+after r (Count c x) = on_ok r (Turns.count_answer r c x.place) (Turns.with_one_counted r c x.place)
 after r (Peek x) = r
-after r (Uncount c x) = on_ok r (uncount_answer r x.place) (with_one_uncounted r c x.place)
-after r (Advance n) = after_advance r n
-after r (Destroy c n turns) = after_destroy r c n
+after r (Uncount c x) = on_ok r (Turns.uncount_answer r x.place) (Turns.with_one_uncounted r c x.place)
+after r (Advance n) = Turns.after_advance r n
+after r (Destroy c n turns) = Turns.after_destroy r c n
 after r (Perform c turns) = r
 after r Audit = r
 
@@ -81,7 +82,7 @@ pub record HasSlot (h : List Change) (occupants : ℕ → Option ℕ) (n : ℕ) 
 
 -- how many of the first k labels name n
 abbrev pub labels_for : (ℕ → Option ℕ) → ℕ → ℕ → ℕ
-labels_for labels n k = count_below (λ x. is_this n (labels x)) k
+labels_for labels n k = Turns.count_below (λ x. Turns.is_this n (labels x)) k
 
 -- of the settings, the model and the local labels alone: what else a turn changes leaves it as it is
 pub record IsSoundModel (z : Settings) (m : Model) (labels : ℕ → Option ℕ) : Type 0 where

@@ -3,7 +3,7 @@
 ghost use Rattle.std.specs.Prelude.{◌≡◌, ◌<◌, ◌+◌, ◌++◌, IfOk, IfErr, IsErrOf, None, Some, map, string_bytes, ◌∷◌, [], codes};
 ghost use Rattle.std.specs.Fmt.{signed_decimal};
 ghost use Rattle.registry_values.specs.Common.{tally_shown};
-ghost use Rattle.registry_report.specs.Lines.{line_of_words, line_of_text, spaced_words, domain_line, limits_line, attached_line, retired_line, found_line, section_line, label_line, held_line, reading_line, destroyed_line, balance_line, balance_lines, audit_text, stage_words, refused_line, hitch_line};
+ghost use Rattle.registry_report.specs.Lines.{line_of_words, line_of_text, spaced_words, domain_line, limits_line, attached_line, retired_line, found_line, section_line, label_line, held_line, reading_line, destroyed_line, balance_line, audit_text, stage_words, refused_line, hitch_line};
 
 use super::hitch::Hitch;
 use super::session::Reading;

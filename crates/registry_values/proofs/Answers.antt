@@ -38,6 +38,12 @@ pub handed_on : {X : Type 0} (result : Result X Refusal) (f : Refusal) → IsErr
 handed_on (Ok x) f is and = absurd (let q : ◌≡◌ {A = Bool} false true = is in cc)
 handed_on (Err r) f is and = ap (λ (g : Refusal). Err g) and
 
+pub same_Ok : {X : Type 0} (x y : X) → ◌≡◌ {A = Result X Refusal} (Ok x) (Ok y) → x ≡ y
+same_Ok x y is = cc
+
+pub same_Err : {X : Type 0} (f g : Refusal) → ◌≡◌ {A = Result X Refusal} (Err f) (Err g) → f ≡ g
+same_Err f g is = cc
+
 -- two tests; each passes where the other does
 pub same_test : (a b c d : ℕ) → (a < b → c < d) → (b ≤ a → d ≤ c) → nat_lt a b ≡ nat_lt c d
 same_test a b c d less more = ⊎_elim

@@ -1,8 +1,8 @@
 -- How the bytes of a name and its two words hang together, and that the digits of an id say it.
-use Rattle.std.proofs.Common.{◌≡◌, ℕ, ◌+◌, ◌-◌, ◌<◌, ◌==◌, zero, suc, Bool, true, false, ◌&&◌, List, [], ◌∷◌, ◌++◌, length, get_or, take, drop, replicate, Option, Some, None, is_none, if◌then◌else◌, nat_le, not, refl, ap, ap₂, sym, ◌∙◌, arith, ◌⊎◌, ◌≤◌, length-append, length-drop, length-take-le, take-append-drop, inl, inr, true≢false, eqb-true, ◌*◌, ◌/◌, ◌%◌, ◌^◌, IsTrue, ⊎_elim}
-use Rattle.std.proofs.lemmas.Bool.{and_parts, and_from, cases_lt, le-ltb, lt-ltb, eq-eqb}
+use Rattle.std.proofs.Common.{◌≡◌, ℕ, ◌+◌, ◌-◌, ◌<◌, ◌==◌, zero, suc, Bool, true, false, ◌&&◌, List, [], ◌∷◌, ◌++◌, length, get_or, take, drop, replicate, Option, Some, None, is_none, if◌then◌else◌, nat_le, not, refl, ap, ap₂, sym, ◌∙◌, arith, ◌⊎◌, ◌≤◌, inl, inr, ◌*◌, ◌/◌, ◌%◌, ◌^◌, IsTrue, ⊎_elim}
+use Rattle.std.proofs.lemmas.Bool.{and_parts, and_from, cases_lt, le-ltb, lt-ltb, eq-eqb, eqb-true, true≢false}
 use Rattle.std.proofs.lemmas.Bool.Decides.{nat_tests}
-use Rattle.std.proofs.lemmas.List.{length-replicate}
+use Rattle.std.proofs.lemmas.List.{length-replicate, length-append, length-drop, length-take-le, take-append-drop}
 use Rattle.std.proofs.lemmas.Nat.{be_bytes_8, from_be_bytes-to_be_bytes_8, mul-add-lt, mod-mul-add, div-add-mod'}
 use Rattle.std.specs.Int.{w64, from_be_bytes, to_be_bytes}
 use native.Mathlib.Nat.{le-mul_of_pos_right, mod-lt, pow-succ'}

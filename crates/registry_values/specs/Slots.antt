@@ -128,11 +128,6 @@ is_retired Vacant = false
 is_retired (Live e) = false
 is_retired (Retired e) = true
 
-abbrev pub occupant : Slot → Option Entry
-occupant Vacant = None
-occupant (Live e) = Some e
-occupant (Retired e) = Some e
-
 -- the slot shows a live entry with this kind and name
 abbrev pub is_live_as : Key → Slot → Bool
 is_live_as key Vacant = false

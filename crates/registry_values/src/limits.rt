@@ -7,7 +7,7 @@ ghost use Rattle.registry_values.specs.Limits.{LimitsLeaveRoom};
 /// The most CPUs that a registry may have. CPU numbers are `u8` and signed counts are summed over them, so at most 128.
 pub const MOST_CPUS: usize = 64;
 
-/// The most entries that a registry may hold at a time, and so the most slots. Slot numbers are `u8`, and one value more stands for none, so
+/// The most entries that a registry may hold at a time, and so the most slots. Slot numbers are `u8`, and one value more means none, so
 /// at most 255.
 pub const MOST_SLOTS: usize = 255;
 

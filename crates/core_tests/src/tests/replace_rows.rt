@@ -1,5 +1,5 @@
-//! Worked rows of a `Republish`, by which an entry takes another's place in the list: where it is allowed, and what lookups find then. No command
-//! makes it.
+//! Worked rows of a `Republish`, which puts an entry in another's place in the list: where it is
+//! allowed, and what lookups find then. No command makes it.
 
 use super::bench::{Ask, Line, Told, run};
 use super::data::{ATTACH_WM, ENTER, EXIT, FIND_WM, FIRST, SECOND, THIRD, USUAL, WM0_IFACE};

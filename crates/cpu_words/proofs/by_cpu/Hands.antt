@@ -9,8 +9,10 @@ use Rattle.protocol.proofs.keeps.References.{back_holds}
 use Rattle.protocol.proofs.counts.Sums.{local_changed, local_added, standing_within}
 use Rattle.cpu_words.proofs.shown.Showing.{standing_in, shows_split, JoinsSo, joins_on, reference_place, goes_to}
 use Rattle.cpu_words.proofs.logs.Logs.{tells_nothing, names_nobody, seat_cut, seat_join}
-use Rattle.cpu_words.specs.Common.{InHand, CpuView, ReferenceView, Logged, View, Cpu, Reference, Spot, section_of, word_at, is_to, references_to, SameHand, HandFits, IsCollectedFor, CpuShown, ReferenceShown, cpu_of, reference_of, Good, number_or_none, by_number, did, the_cpu, maker, LoggedRuled, logged_after_split, no_log, no_teller, fresh, joined_seat, spent_seat, leaves_hand, cuts_off, takes_in, SplitsBy, JoinsBy, SplitsOn, IsIdle, with_hand, reference_in, with_empty_hand, reference_of_hand, with_reference_in_hand, IsTaking, IsBack, IsTrying, trying_in, HasNone, is_border, is_hear}
+use Rattle.cpu_words.specs.Common.{InHand, CpuView, ReferenceView, Logged, View, Cpu, Reference, Spot, section_of, word_at, is_to, references_to, SameHand, HandFits, IsCollectedFor, CpuShown, ReferenceShown, cpu_of, reference_of, Good, number_or_none, by_number, did, SplitsBy, JoinsBy, SplitsOn, IsIdle, IsTrying, trying_in, HasNone, is_border, is_hear}
 use Rattle.cpu_words.specs.declared.view.InHand.TheVariants.{Empty as NoEntry, Taking as TakingEntry, Giving as GivingEntry, Back as BackEntry, Trying as TryingEntry}
+use Rattle.cpu_words.specs.Logs
+use Rattle.cpu_words.specs.Locals
 use Rattle.cpu_words.proofs.shown.Placing.{agrees_same}
 use Rattle.cpu_words.proofs.by_cpu.CpuSteps.{with_lists, LeavesOthers, cpu_stays, good_after}
 use Rattle.cpu_words.proofs.shown.Seeing.{seen_of, idle_of, idle_tries}
@@ -49,23 +51,23 @@ pub same_trying : (h : Hand) (e : Entry) → SameHand h (TryingEntry e) → h �
 same_trying (Trying t n) e same = λ k. Trying (same.0 k) (same.1 k)
 same_trying h e same = absurd same
 
-pub taking_hand : (g : State) (x : CpuView) (e : Entry) → CpuShown g x → IsTaking x e → hand_at g x.id ≡ Taking e.number
+pub taking_hand : (g : State) (x : CpuView) (e : Entry) → CpuShown g x → Locals.IsTaking x e → hand_at g x.id ≡ Taking e.number
 taking_hand g x e had is = same_taking (hand_at g x.id) e (subst (SameHand (hand_at g x.id)) is had.hand)
 
 pub giving_hand : (g : State) (x : CpuView) (e : Entry) → CpuShown g x → x.hand ≡ GivingEntry e → (id : ℕ) × (hand_at g x.id ≡ Giving e.number id)
 giving_hand g x e had is = same_giving (hand_at g x.id) e (subst (SameHand (hand_at g x.id)) is had.hand)
 
-pub back_hand : (g : State) (x : CpuView) (e : Entry) → CpuShown g x → IsBack x e → (id : ℕ) × (hand_at g x.id ≡ Back e.number id)
+pub back_hand : (g : State) (x : CpuView) (e : Entry) → CpuShown g x → Locals.IsBack x e → (id : ℕ) × (hand_at g x.id ≡ Back e.number id)
 back_hand g x e had is = same_back (hand_at g x.id) e (subst (SameHand (hand_at g x.id)) is had.hand)
 
 pub trying_hand : (g : State) (x : CpuView) (e : Entry) → CpuShown g x → IsTrying x e → hand_at g x.id ≡ Trying e.slot e.number
 trying_hand g x e had is = same_trying (hand_at g x.id) e (subst (SameHand (hand_at g x.id)) is had.hand)
 
 pub shown_hand : (g : State) (x : CpuView) (h : Hand) (locals : List LocalPlace) (k : InHand) → Good g → CpuShown g x → SameHand h k → HandFits g.history g.slots g.marks x.id k
-    → ((t : ℕ) → trying_in t k ≡ trying_in t x.hand) → CpuShown (handed g x.id h locals) (with_hand x k)
+    → ((t : ℕ) → trying_in t k ≡ trying_in t x.hand) → CpuShown (handed g x.id h locals) (Locals.with_hand x k)
 shown_hand g x h locals k good had same fits tries =
     let seen = seen_of g x good had in assumption (
-      ap (λ (v : CpuView). with_hand v k) had.is,
+      ap (λ (v : CpuView). Locals.with_hand v k) had.is,
       subst (λ j. SameHand j k) (sym (get_or-set_same g.hands x.id h Empty seen.in_hands)) same,
       fits,
       λ (t : ℕ) (e : Entry) (here : IsIn e (slot_at g.slots t)). had.passive t e here ∙ ap (λ n. references_to e.number x.references + n) (sym (tries t)),
@@ -84,13 +86,13 @@ pub record Leaving (e : Event) (x : CpuView) (g : State) : Type 0 where
   pub tries : (t : ℕ) → trying_in t NoEntry ≡ trying_in t x.hand
   -- the reply is an id, which the seat isn't told
   pub told : did (by_number g e) r ≡ did e (Ref 0)
-  pub right : ReferenceShown g (reference_in x.id x.hand)
-  pub count : (n : ℕ) → one_if (is_to n (reference_in x.id x.hand).entry) + standing_in n g ≡ sum_by (standing_of n) locals
+  pub right : ReferenceShown g (Locals.reference_in x.id x.hand)
+  pub count : (n : ℕ) → one_if (is_to n (Locals.reference_in x.id x.hand).entry) + standing_in n g ≡ sum_by (standing_of n) locals
 
 abbrev pub LeavesHand : Event → CpuView → Type 0
 LeavesHand e x = (g : State) → Good g → CpuShown g x → Leaving e x g
 
-splits_by : (x : CpuView) (e : Event) → LeavesHand e x → SplitsBy e (Cpu x) (with_empty_hand (Cpu x)) (reference_of_hand (Cpu x))
+splits_by : (x : CpuView) (e : Event) → LeavesHand e x → SplitsBy e (Cpu x) (Locals.with_empty_hand (Cpu x)) (Locals.reference_of_hand (Cpu x))
 splits_by x e leaves g good had =
     let p = leaves g good had in record {
       after = handed g x.id p.h p.locals;
@@ -102,7 +104,7 @@ splits_by x e leaves g good had =
       count = λ n. let h = p.count n in omega arith;
     }
 
-splits : (z : Settings) (i : ℕ) (x : CpuView) (e : Event) → LeavesHand e x → SplitsOn z i (Cpu x) (with_empty_hand (Cpu x)) (reference_of_hand (Cpu x)) (did e (Ref 0))
+splits : (z : Settings) (i : ℕ) (x : CpuView) (e : Event) → LeavesHand e x → SplitsOn z i (Cpu x) (Locals.with_empty_hand (Cpu x)) (Locals.reference_of_hand (Cpu x)) (did e (Ref 0))
 splits z i x e leaves s r at =
     let g = r.g in
     let had = r.shows.fits i (Cpu x) at in
@@ -111,47 +113,47 @@ splits z i x e leaves s r at =
     let after = leaves_hands g x.id p.h p.locals in
     goes_to z s r (with_lists g l) r.seat e p.r _ _ p.made p.told (good_after g l x.id e p.r r.good after had.1.seated p.made) refl (omega arith) (λ c lt. refl)
     (agrees_same z s.words g (with_lists g l) r.words refl (λ q there. same_words g x.id p.h p.locals q))
-    (shows_split g (with_lists g l) r.seat s.views i (Cpu x) (with_empty_hand (Cpu x)) (reference_of_hand (Cpu x)) r.shows at (cpu_stays g l x.id r.seat i after had.0)
+    (shows_split g (with_lists g l) r.seat s.views i (Cpu x) (Locals.with_empty_hand (Cpu x)) (Locals.reference_of_hand (Cpu x)) r.shows at (cpu_stays g l x.id r.seat i after had.0)
     (had.0, shown_hand g x p.h p.locals NoEntry r.good had.1 p.same tt p.tries) (tt, record { attached = p.right.attached; collected = p.right.collected }) (λ c lt. inl lt) refl
     (λ n. let h = p.count n in omega arith))
 
 -- what a hand leaves is a SplitRef or a SplitBack
-leaves_quietly : (of : Event → Bool) (c : ℕ) (h : InHand) → ((c : ℕ) → of (SplitRef c) ≡ false) → ((c : ℕ) → of (SplitBack c) ≡ false) → HasNone of (leaves_hand c h)
+leaves_quietly : (of : Event → Bool) (c : ℕ) (h : InHand) → ((c : ℕ) → of (SplitRef c) ≡ false) → ((c : ℕ) → of (SplitBack c) ≡ false) → HasNone of (Logs.leaves_hand c h)
 leaves_quietly of c (TakingEntry e) split back = (split c, tt)
 leaves_quietly of c (BackEntry e) split back = (back c, tt)
 leaves_quietly of c k split back = tt
 
 -- the same of a seat, whose view is a CPU's
 
-pub seat_splits : (z : Settings) (i : ℕ) (l : Logged) (x : CpuView) (e : Event) → l ≡ record l { view = Cpu (cpu_of l.view) } → l.ended ≡ false → cpu_of l.view ≡ x → maker e ≡ the_cpu x.id
-    → leaves_hand x.id x.hand ≡ did e (Ref 0) → LeavesHand e x
-    → Splits (LoggedRuled z) i l (logged_after_split with_empty_hand cuts_off l) (fresh reference_of_hand no_log no_teller l)
-seat_splits z i l x e is going view own does leaves = seat_cut z i l (Cpu x) with_empty_hand reference_of_hand cuts_off no_log no_teller (did e (Ref 0))
+pub seat_splits : (z : Settings) (i : ℕ) (l : Logged) (x : CpuView) (e : Event) → l ≡ record l { view = Cpu (cpu_of l.view) } → l.ended ≡ false → cpu_of l.view ≡ x → Logs.maker e ≡ Logs.the_cpu x.id
+    → Logs.leaves_hand x.id x.hand ≡ did e (Ref 0) → LeavesHand e x
+    → Splits (Logs.LoggedRuled z) i l (Logs.logged_after_split Locals.with_empty_hand Logs.cuts_off l) (Logs.fresh Locals.reference_of_hand Logs.no_log Logs.no_teller l)
+seat_splits z i l x e is going view own does leaves = seat_cut z i l (Cpu x) Locals.with_empty_hand Locals.reference_of_hand Logs.cuts_off Logs.no_log Logs.no_teller (did e (Ref 0))
     (is ∙ ap (λ (u : CpuView). record l { view = Cpu u }) view) going tt (own, tt)
     (subst (HasNone is_border) does (leaves_quietly is_border x.id x.hand (λ c. refl) (λ c. refl))) (subst (HasNone is_hear) does (leaves_quietly is_hear x.id x.hand (λ c. refl) (λ c. refl))) does
     (tells_nothing (record l { view = Cpu x }) (did e (Ref 0))) (names_nobody (record l { view = Cpu x }) (did e (Ref 0)))
     (splits z i x e leaves)
 
 -- what is in the hand says which
-pub does_split_ref : (x : CpuView) (c : ℕ) → x.id ≡ c → (e : Entry) × IsTaking x e → leaves_hand x.id x.hand ≡ did (SplitRef c) (Ref 0)
-does_split_ref x c id may k = leaves_hand (id k) (may.1 k)
+pub does_split_ref : (x : CpuView) (c : ℕ) → x.id ≡ c → (e : Entry) × Locals.IsTaking x e → Logs.leaves_hand x.id x.hand ≡ did (SplitRef c) (Ref 0)
+does_split_ref x c id may k = Logs.leaves_hand (id k) (may.1 k)
 
-pub does_split_back : (x : CpuView) (c : ℕ) → x.id ≡ c → (e : Entry) × IsBack x e → leaves_hand x.id x.hand ≡ did (SplitBack c) (Ref 0)
-does_split_back x c id may k = leaves_hand (id k) (may.1 k)
+pub does_split_back : (x : CpuView) (c : ℕ) → x.id ≡ c → (e : Entry) × Locals.IsBack x e → Logs.leaves_hand x.id x.hand ≡ did (SplitBack c) (Ref 0)
+does_split_back x c id may k = Logs.leaves_hand (id k) (may.1 k)
 
-pub seat_splits_by : (v a b : View) (x : CpuView) (e : Event) → cpu_of v ≡ x → a ≡ with_empty_hand v → b ≡ reference_of_hand v → LeavesHand e x
+pub seat_splits_by : (v a b : View) (x : CpuView) (e : Event) → cpu_of v ≡ x → a ≡ Locals.with_empty_hand v → b ≡ Locals.reference_of_hand v → LeavesHand e x
     → SplitsBy e (Cpu x) (Cpu (cpu_of a)) (Reference (reference_of b))
 seat_splits_by v a b x e view left right leaves =
-    let p : cpu_of a ≡ with_hand x NoEntry = ap cpu_of left ∙ ap (λ (u : CpuView). with_hand u NoEntry) view in
-    let q : reference_of b ≡ reference_in x.id x.hand = ap reference_of right ∙ ap (λ (u : CpuView). reference_in u.id u.hand) view in
+    let p : cpu_of a ≡ Locals.with_hand x NoEntry = ap cpu_of left ∙ ap (λ (u : CpuView). Locals.with_hand u NoEntry) view in
+    let q : reference_of b ≡ Locals.reference_in x.id x.hand = ap reference_of right ∙ ap (λ (u : CpuView). Locals.reference_in u.id u.hand) view in
     subst (λ (w : CpuView × ReferenceView). SplitsBy e (Cpu x) (Cpu w.0) (Reference w.1)) (λ k. (sym p k, sym q k)) (splits_by x e leaves)
 
-pub split_ref_leaves : (x : CpuView) (c : ℕ) → x.id ≡ c → (e : Entry) × IsTaking x e → LeavesHand (SplitRef c) x
+pub split_ref_leaves : (x : CpuView) (c : ℕ) → x.id ≡ c → (e : Entry) × Locals.IsTaking x e → LeavesHand (SplitRef c) x
 split_ref_leaves x c id may = subst (λ d. LeavesHand (SplitRef d) x) id (λ g good had.
     let e = may.0 in
     let n = e.number in
     let attached : IsAttached g.history e = subst (HandFits g.history g.slots g.marks x.id) may.1 had.in_hand in
-    let there : reference_in x.id x.hand ≡ record { entry = e; collected = None } = ap (reference_in x.id) may.1 in record {
+    let there : Locals.reference_in x.id x.hand ≡ record { entry = e; collected = None } = ap (Locals.reference_in x.id) may.1 in record {
       r = Ref (least_id g.locals);
       told = refl;
       h = Empty;
@@ -161,10 +163,10 @@ split_ref_leaves x c id may = subst (λ d. LeavesHand (SplitRef d) x) id (λ g g
       tries = λ t. sym (ap (trying_in t) may.1);
       right = subst (ReferenceShown g) (sym there) (record { attached = attached; collected = λ d no. absurd (let q : ◌≡◌ {A = Option ℕ} None (Some d) = no in cc) });
       count = λ k. let a = local_added k g.locals (Standing n) in
-          let b : one_if (is_to k (reference_in x.id x.hand).entry) ≡ one_if (n == k) = ap (λ (v : ReferenceView). one_if (is_to k v.entry)) there in omega arith;
+          let b : one_if (is_to k (Locals.reference_in x.id x.hand).entry) ≡ one_if (n == k) = ap (λ (v : ReferenceView). one_if (is_to k v.entry)) there in omega arith;
     })
 
-pub split_back_leaves : (x : CpuView) (c : ℕ) → x.id ≡ c → (e : Entry) × IsBack x e → LeavesHand (SplitBack c) x
+pub split_back_leaves : (x : CpuView) (c : ℕ) → x.id ≡ c → (e : Entry) × Locals.IsBack x e → LeavesHand (SplitBack c) x
 split_back_leaves x c id may = subst (λ d. LeavesHand (SplitBack d) x) id (λ g good had.
     let e = may.0 in
     let n = e.number in
@@ -173,7 +175,7 @@ split_back_leaves x c id may = subst (λ d. LeavesHand (SplitBack d) x) id (λ g
     let lifted = (back_holds g.settings.cpus g.slots g.hands g.due g.locals x.id n place was.1 good.holds.references).1 in
     let within = (back_within g x.id n place good.holds was.1).1 in
     let fits : IsAttached g.history e × IsCollectedFor g.slots g.marks e x.id = subst (HandFits g.history g.slots g.marks x.id) may.1 had.in_hand in
-    let there : reference_in x.id x.hand ≡ record { entry = e; collected = Some x.id } = ap (reference_in x.id) may.1 in record {
+    let there : Locals.reference_in x.id x.hand ≡ record { entry = e; collected = Some x.id } = ap (Locals.reference_in x.id) may.1 in record {
       r = Ref place;
       told = refl;
       h = Empty;
@@ -188,8 +190,8 @@ split_back_leaves x c id may = subst (λ d. LeavesHand (SplitBack d) x) id (λ g
 -- A reference goes into the hand
 
 -- the event that puts a reference into the CPU's hand, and what it leaves
-ref_joins : (x : CpuView) (c : ℕ) (v : ReferenceView) → x.id ≡ c → IsIdle x → JoinsSo (JoinRef c) (Cpu x) (Reference v) (with_reference_in_hand (Cpu x) (Reference v))
-ref_joins x c v id idle = subst (λ d. JoinsSo (JoinRef d) (Cpu x) (Reference v) (with_reference_in_hand (Cpu x) (Reference v))) id (λ g good had shown backs.
+ref_joins : (x : CpuView) (c : ℕ) (v : ReferenceView) → x.id ≡ c → IsIdle x → JoinsSo (JoinRef c) (Cpu x) (Reference v) (Locals.with_reference_in_hand (Cpu x) (Reference v))
+ref_joins x c v id idle = subst (λ d. JoinsSo (JoinRef d) (Cpu x) (Reference v) (Locals.with_reference_in_hand (Cpu x) (Reference v))) id (λ g good had shown backs.
     let n = v.entry.number in
     let place = reference_place g v backs in
     let p = place.0 in
@@ -219,13 +221,13 @@ ref_joins x c v id idle = subst (λ d. JoinsSo (JoinRef d) (Cpu x) (Reference v)
 pub seat_joins : (z : Settings) (i o : ℕ) (l m : Logged) (x : CpuView) → l ≡ record l { view = Cpu (cpu_of l.view) } → l.ended ≡ false → cpu_of l.view ≡ x → m ≡ record m { view = Reference (reference_of m.view) }
     → m.ended ≡ false
     → IsIdle x
-    → Joins (LoggedRuled z) i l o m (joined_seat with_reference_in_hand takes_in l m) spent_seat
-seat_joins z i o l m x is going view that other idle = seat_join z i o l m (Cpu x) (Reference (reference_of m.view)) with_reference_in_hand takes_in (did (JoinRef x.id (reference_of m.view).entry.number) Done)
+    → Joins (Logs.LoggedRuled z) i l o m (Logs.joined_seat Locals.with_reference_in_hand Logs.takes_in l m) Logs.spent_seat
+seat_joins z i o l m x is going view that other idle = seat_join z i o l m (Cpu x) (Reference (reference_of m.view)) Locals.with_reference_in_hand Logs.takes_in (did (JoinRef x.id (reference_of m.view).entry.number) Done)
     (is ∙ ap (λ (u : CpuView). record l { view = Cpu u }) view) that going other tt (refl, tt) (refl, tt) (refl, tt) refl (joins_on z i (Cpu x) o (Reference (reference_of m.view))
-    (with_reference_in_hand (Cpu x) (Reference (reference_of m.view))) (JoinRef x.id) (ref_joins x x.id (reference_of m.view) refl idle) (refl, refl) (λ seat sits. sits))
+    (Locals.with_reference_in_hand (Cpu x) (Reference (reference_of m.view))) (JoinRef x.id) (ref_joins x x.id (reference_of m.view) refl idle) (refl, refl) (λ seat sits. sits))
 
-pub seat_joins_by : (v a : View) (x : CpuView) (c : ℕ) (u : View) (w : ReferenceView) → cpu_of v ≡ x → reference_of u ≡ w → a ≡ with_reference_in_hand v u → x.id ≡ c → IsIdle x
+pub seat_joins_by : (v a : View) (x : CpuView) (c : ℕ) (u : View) (w : ReferenceView) → cpu_of v ≡ x → reference_of u ≡ w → a ≡ Locals.with_reference_in_hand v u → x.id ≡ c → IsIdle x
     → JoinsBy (JoinRef c) (Cpu x) (Reference w) (Cpu (cpu_of a))
 seat_joins_by v a x c u w view that both id idle =
-    let p : cpu_of a ≡ with_hand x (GivingEntry w.entry) = ap cpu_of both ∙ (λ k. with_hand (view k) (GivingEntry (that k).entry)) in
+    let p : cpu_of a ≡ Locals.with_hand x (GivingEntry w.entry) = ap cpu_of both ∙ (λ k. Locals.with_hand (view k) (GivingEntry (that k).entry)) in
     subst (λ (y : CpuView). JoinsBy (JoinRef c) (Cpu x) (Reference w) (Cpu y)) (sym p) (λ g good had shown backs. (ref_joins x c w id idle g good had shown backs).makes)

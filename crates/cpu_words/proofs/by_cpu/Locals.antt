@@ -23,8 +23,9 @@ use Rattle.protocol.proofs.counts.Counts.{counting_cases, is_counting}
 use Rattle.protocol.proofs.keeps.CountKeeps.{held_counting}
 use Rattle.protocol.proofs.keeps.References.{giving_holds}
 use Rattle.protocol.proofs.counts.Sums.{local_changed}
-use Rattle.cpu_words.specs.Common.{InHand, CpuView, count_of, index, number_at, with_number, one_more, cpu_view, SameHand, HandFits, depth_of, collected_net, collected_one, GivesUp, CpuShown, trying_in, Agrees, Good, IsNetCount, IsPlaceCount, IsMetAlone, View, Cpu, IsCollectedFor, cpu_of, Ruled, GoesOn, did, Makes, CpuMay, down_reply, MayCount, HasCounted, CountTold, MayCountDown, HasCountedDown, HasFoundCollected, DownTold, with_hand}
+use Rattle.cpu_words.specs.Common.{InHand, CpuView, count_of, index, number_at, with_number, one_more, cpu_view, SameHand, HandFits, depth_of, collected_net, collected_one, GivesUp, CpuShown, trying_in, Agrees, Good, View, Cpu, IsCollectedFor, cpu_of, Ruled, GoesOn, did, Makes, CpuMay}
 use Rattle.cpu_words.specs.declared.view.InHand.TheVariants.{Empty as NoEntry, Taking as TakingEntry, Giving as GivingEntry, Back as BackEntry}
+use Rattle.cpu_words.specs.Locals
 use Rattle.cpu_words.proofs.shown.Placing.{agrees_set}
 use Rattle.cpu_words.proofs.by_cpu.CpuSteps.{with_lists, LeavesOthers, cpu_makes, CpuDoes}
 use Rattle.cpu_words.proofs.shown.Seeing.{seen_of, Seen, idle_of, idle_tries, its_slot}
@@ -57,7 +58,7 @@ one_more_other l n m ne = with_number_other l n (suc (number_at l n)) m ne
 -- The places
 
 -- what a CPU's place of a slot says of the occupant is its net count for it
-pub place_is : (g : State) (x : CpuView) (t : ℕ) (e : Entry) (w : ℕ) → CpuShown g x → IsIn e (slot_at g.slots t) → IsPlaceCount x t e.number w → IsNetCount x e.number w
+pub place_is : (g : State) (x : CpuView) (t : ℕ) (e : Entry) (w : ℕ) → CpuShown g x → IsIn e (slot_at g.slots t) → Locals.IsPlaceCount x t e.number w → Locals.IsNetCount x e.number w
 place_is g x t e w had here place = dite (ℕ_discrete (number_at x.met t) e.number)
     (λ (same : number_at x.met t ≡ e.number). place.met same)
     (λ (off : number_at x.met t ≢ e.number).
@@ -164,7 +165,7 @@ there_on g x e t good had here u some_one = dite (ℕ_discrete u t)
     (f.0, f.1, f.2 ∙ sym same, f.3))
 
 -- the CPU has met an entry in its own slot alone
-pub met_alone : (g : State) (x : CpuView) (e : Entry) → CpuShown g x → IsAttached g.history e → IsMetAlone x e.slot e.number
+pub met_alone : (g : State) (x : CpuView) (e : Entry) → CpuShown g x → IsAttached g.history e → Locals.IsMetAlone x e.slot e.number
 met_alone g x e had attached u same =
     let begun : 0 < e.number = (attached_within g.history e attached).0 in
     let f = had.there u (λ none. absurd (omega arith)) in
@@ -220,7 +221,7 @@ found_counts g c e good found =
     let slot = slot_number g.history g.slots e e.slot holds.slots there in
     (slot, there, (held_counting g c e.slot e holds found slot).1)
 
-count_add_at : (z : Settings) (x : CpuView) (e : Entry) → MayCount x e.slot e.number → x.found ≡ Some e → CpuDoes z x (count_of x.id e.slot) (λ m. (m + 1) % 2 ^ 64) (CountAdd x.id) Word CountTold
+count_add_at : (z : Settings) (x : CpuView) (e : Entry) → Locals.MayCount x e.slot e.number → x.found ≡ Some e → CpuDoes z x (count_of x.id e.slot) (λ m. (m + 1) % 2 ^ 64) (CountAdd x.id) Word Locals.CountTold
 count_add_at z x e may is s r i at fits =
     let g = r.g in
     let c = x.id in
@@ -261,21 +262,21 @@ count_add_at z x e may is s r i at fits =
     let y = recounted g x t n l (TakingEntry e) acquired x.released in
     let change : y ≡ record x { hand = TakingEntry e; acquired = acquired; met = with_number x.met t n } =
     ap (λ (v : CpuView). record v { hand = TakingEntry e; acquired = acquired; met = with_number x.met t n }) (sym had.is) in
-    let told : CountTold x word y = λ u m other.
+    let told : Locals.CountTold x word y = λ u m other.
     let one : e ≡ other.entry = same_Some e other.entry (sym is ∙ other.found) in
     let slot : t ≡ u = ap (λ (f : Entry). f.slot) one ∙ other.slot in
     let number : n ≡ m = ap (λ (f : Entry). f.number) one ∙ other.number in
     let low : word < bias + x.settings.count_limit = omega arith in
     let word_net : word + number_at x.released n ≡ bias + number_at x.acquired n = omega (arith, has, same, net) in
-    subst (λ (p : ℕ × ℕ). HasCounted x p.0 p.1 y × IsNetCount x p.1 word × (word < bias + x.settings.count_limit) × IsMetAlone x p.0 p.1) (λ k. (slot k, number k))
+    subst (λ (p : ℕ × ℕ). Locals.HasCounted x p.0 p.1 y × Locals.IsNetCount x p.1 word × (word < bias + x.settings.count_limit) × Locals.IsMetAlone x p.0 p.1) (λ k. (slot k, number k))
     ((e, is, refl, refl, change), word_net, low, met_alone g x e had attached) in
     (Cpu y, done.0, (refl, (done.1, told)))
 
 -- the place of an entry's slot, where the slot and the number are the entry's
-place_at : (x : CpuView) (e : Entry) (t n w : ℕ) → e.slot ≡ t → e.number ≡ n → IsPlaceCount x t n w → IsPlaceCount x e.slot e.number w
-place_at x e t n w slot number place = subst (λ (p : ℕ × ℕ). IsPlaceCount x p.0 p.1 w) (λ k. (sym slot k, sym number k)) place
+place_at : (x : CpuView) (e : Entry) (t n w : ℕ) → e.slot ≡ t → e.number ≡ n → Locals.IsPlaceCount x t n w → Locals.IsPlaceCount x e.slot e.number w
+place_at x e t n w slot number place = subst (λ (p : ℕ × ℕ). Locals.IsPlaceCount x p.0 p.1 w) (λ k. (sym slot k, sym number k)) place
 
-pub count_add_may : (z : Settings) (x : CpuView) (c t n : ℕ) → x.id ≡ c → MayCount x t n → CpuDoes z x (count_of c t) (λ m. (m + 1) % 2 ^ 64) (CountAdd c) Word CountTold
+pub count_add_may : (z : Settings) (x : CpuView) (c t n : ℕ) → x.id ≡ c → Locals.MayCount x t n → CpuDoes z x (count_of c t) (λ m. (m + 1) % 2 ^ 64) (CountAdd c) Word Locals.CountTold
 count_add_may z x c t n id may = rw (← id, ← may.slot) (count_add_at z x may.entry (record {
   idle = may.idle;
   entry = may.entry;
@@ -297,11 +298,11 @@ record Giver (g : State) (x : CpuView) (e : Entry) (old : ℕ) : Type 0 where
   pub here : IsIn e (slot_at g.slots e.slot)
   pub there : e.slot < g.settings.slots
   pub slot : slot_of g.slots e.number ≡ Some e.slot
-  pub low : IsNetCount x e.number old
+  pub low : Locals.IsNetCount x e.number old
   pub net : count_at g.nets x.id e.slot ≡ old
   pub floor : 0 < old
 
-giver : (g : State) (x : CpuView) (e : Entry) (old : ℕ) → Good g → CpuShown g x → x.hand ≡ GivingEntry e → IsPlaceCount x e.slot e.number old → Giver g x e old
+giver : (g : State) (x : CpuView) (e : Entry) (old : ℕ) → Good g → CpuShown g x → x.hand ≡ GivingEntry e → Locals.IsPlaceCount x e.slot e.number old → Giver g x e old
 giver g x e old good had is place =
     let seen = seen_of g x good had in
     let attached : IsAttached g.history e = subst (HandFits g.history g.slots g.marks x.id) is had.in_hand in
@@ -326,9 +327,9 @@ giver g x e old good had is place =
 
 -- what the step from `old` must leave and tell, where it found w
 abbrev Down : (z : Settings) (s : Table ℕ View) → Ruled z s → ℕ → CpuView → Entry → ℕ → ℕ → ℕ → Type 0
-Down z s r i x e old w m = (y : CpuView) × GoesOn z s r (did (CountDown x.id) (down_reply old w)) (stepped s (index z (count_of x.id e.slot)) m i [] (Cpu y) keeps)
-    × (w ≡ old → Makes (CountDown x.id) (Word w) (Cpu x) (Cpu y) × HasCountedDown x e.slot e.number y)
-    × ((w ≡ old → ⊥) → Makes (CountDown x.id) Collected (Cpu x) (Cpu y) × HasFoundCollected x e.number y)
+Down z s r i x e old w m = (y : CpuView) × GoesOn z s r (did (CountDown x.id) (Locals.down_reply old w)) (stepped s (index z (count_of x.id e.slot)) m i [] (Cpu y) keeps)
+    × (w ≡ old → Makes (CountDown x.id) (Word w) (Cpu x) (Cpu y) × Locals.HasCountedDown x e.slot e.number y)
+    × ((w ≡ old → ⊥) → Makes (CountDown x.id) Collected (Cpu x) (Cpu y) × Locals.HasFoundCollected x e.number y)
 
 -- the word is the net count: one reference is released
 down_counted : (z : Settings) (s : Table ℕ View) (r : Ruled z s) (i : ℕ) (x : CpuView) (e : Entry) (old : ℕ) → get_elem? s.views i ≡ some (Cpu x) → x.hand ≡ GivingEntry e → Giver r.g x e old
@@ -364,7 +365,7 @@ down_counted z s r i x e old at is p found =
     let y = recounted g x t n l NoEntry x.acquired released in
     let change : y ≡ record x { hand = NoEntry; released = released; met = with_number x.met t n } =
     ap (λ (v : CpuView). record v { hand = NoEntry; released = released; met = with_number x.met t n }) (sym p.had.is) in
-    let replied : Word word ≡ down_reply old word = sym (ap (λ b. if b then Word word else Collected) (eq-eqb word old found)) in (
+    let replied : Word word ≡ Locals.down_reply old word = sym (ap (λ b. if b then Word word else Collected) (eq-eqb word old found)) in (
       y,
       subst (λ (a : Reply). GoesOn z s r (did (CountDown c) a) (stepped s (index z (count_of c t)) (old - 1) i [] (Cpu y) keeps)) replied done.0,
       (λ _. (done.1, (e, is, refl, refl, change))),
@@ -387,12 +388,12 @@ down_collected z s r i x e old at is p off =
     (λ (gone : (slot_at g.slots t ≡ Retired e) × ((mark_at g.marks t c).collected ≡ true)). gone)
     (counting_cases g.slots g.marks c t e p.here) in
     let l = hand_lists g c (Back n p.id) g.locals in
-    let view : with_hand x (BackEntry e) ≡ cpu_view (with_lists g l) c (record x { hand = BackEntry e }) = ap (λ (v : CpuView). with_hand v (BackEntry e)) p.had.is in
+    let view : Locals.with_hand x (BackEntry e) ≡ cpu_view (with_lists g l) c (record x { hand = BackEntry e }) = ap (λ (v : CpuView). Locals.with_hand v (BackEntry e)) p.had.is in
     let made : step g (CountDown c) ≡ Some (record { state = with_lists g l; reply = Collected }) = rw (p.hand, p.slot, ne_eqb (count_at g.counts c t) (count_at g.nets c t) differs) refl in
     let words = agrees_set z s.words g (with_lists g l) (count_of c t) word r.words refl (p.seen.lt, p.there) (sym has) (λ q there ne. same_words g c (Back n p.id) g.locals q) in
     let done = cpu_makes z s r i x (index z (count_of c t)) word l (CountDown c) Collected (record x { hand = BackEntry e }) at made (leaves_hands g c (Back n p.id) g.locals) (λ k. refl) refl
     (subst (CpuShown (with_lists g l)) view (shown_hand g x (Back n p.id) g.locals (BackEntry e) r.good p.had refl (p.attached, gone) (λ u. sym (ap (trying_in u) is)))) words in
-    let replied : Collected ≡ down_reply old word = sym (ap (λ b. if b then Word word else Collected) (ne_eqb word old off)) in
+    let replied : Collected ≡ Locals.down_reply old word = sym (ap (λ b. if b then Word word else Collected) (ne_eqb word old off)) in
     let y = cpu_view (with_lists g l) c (record x { hand = BackEntry e }) in (
       y,
       subst (λ (a : Reply). GoesOn z s r (did (CountDown c) a) (stepped s (index z (count_of c t)) word i [] (Cpu y) keeps)) replied done.0,
@@ -400,8 +401,8 @@ down_collected z s r i x e old at is p off =
       (λ _. (done.1, (e, is, refl, sym view))),
     )
 
-count_down_at : (z : Settings) (x : CpuView) (e : Entry) (old new : ℕ) → x.hand ≡ GivingEntry e → IsPlaceCount x e.slot e.number old → old < 2 ^ 64 → new ≡ (old + (2 ^ 64 - 1)) % 2 ^ 64
-    → CpuMay z x (index z (count_of x.id e.slot)) (λ m. either (m == old) new m) (λ m. did (CountDown x.id) (down_reply old m)) (DownTold (CountDown x.id) old)
+count_down_at : (z : Settings) (x : CpuView) (e : Entry) (old new : ℕ) → x.hand ≡ GivingEntry e → Locals.IsPlaceCount x e.slot e.number old → old < 2 ^ 64 → new ≡ (old + (2 ^ 64 - 1)) % 2 ^ 64
+    → CpuMay z x (index z (count_of x.id e.slot)) (λ m. either (m == old) new m) (λ m. did (CountDown x.id) (Locals.down_reply old m)) (Locals.DownTold (CountDown x.id) old)
 count_down_at z x e old new is place fits is_new s r i at within =
     let p = giver r.g x e old r.good (r.shows.fits i (Cpu x) at).1 is place in
     let floor : 0 < old = p.floor in
@@ -415,13 +416,13 @@ count_down_at z x e old new is place fits is_new s r i at within =
     (cases_eq word old)
   where
     Goal : ℕ → ℕ → Type 0
-    Goal w m = (v : View) × GoesOn z s r (did (CountDown x.id) (down_reply old w)) (stepped s (index z (count_of x.id e.slot)) m i [] v keeps)
-        × ((v ≡ Cpu (cpu_of v)) × DownTold (CountDown x.id) old x w (cpu_of v))
+    Goal w m = (v : View) × GoesOn z s r (did (CountDown x.id) (Locals.down_reply old w)) (stepped s (index z (count_of x.id e.slot)) m i [] v keeps)
+        × ((v ≡ Cpu (cpu_of v)) × Locals.DownTold (CountDown x.id) old x w (cpu_of v))
 
     same_giving_entry : (a b : Entry) → GivingEntry a ≡ GivingEntry b → a ≡ b
     same_giving_entry a b eq = cc
 
-    finish : (w m : ℕ) → Down z s r i x e old w m → 0 < old → IsNetCount x e.number old → IsMetAlone x e.slot e.number → Goal w m
+    finish : (w m : ℕ) → Down z s r i x e old w m → 0 < old → Locals.IsNetCount x e.number old → Locals.IsMetAlone x e.slot e.number → Goal w m
     finish w m d floor low alone = (
       Cpu d.0,
       d.1,
@@ -432,14 +433,14 @@ count_down_at z x e old new is place fits is_new s r i at within =
             let slot : e.slot ≡ t = ap (λ (f : Entry). f.slot) one ∙ may.slot in
             let number : e.number ≡ n = ap (λ (f : Entry). f.number) one ∙ may.number in (
               floor,
-              subst (λ k. IsNetCount x k old) number low,
-              subst (λ (p : ℕ × ℕ). IsMetAlone x p.0 p.1) (λ k. (slot k, number k)) alone,
-              (λ same. let h = d.2 same in (h.0, subst (λ (p : ℕ × ℕ). HasCountedDown x p.0 p.1 d.0) (λ k. (slot k, number k)) h.1)),
-              (λ off. let h = d.3 off in (h.0, subst (λ k. HasFoundCollected x k d.0) number h.1)),
+              subst (λ k. Locals.IsNetCount x k old) number low,
+              subst (λ (p : ℕ × ℕ). Locals.IsMetAlone x p.0 p.1) (λ k. (slot k, number k)) alone,
+              (λ same. let h = d.2 same in (h.0, subst (λ (p : ℕ × ℕ). Locals.HasCountedDown x p.0 p.1 d.0) (λ k. (slot k, number k)) h.1)),
+              (λ off. let h = d.3 off in (h.0, subst (λ k. Locals.HasFoundCollected x k d.0) number h.1)),
             ),
       ),
     )
 
-pub count_down_may : (z : Settings) (x : CpuView) (c t n old new : ℕ) → x.id ≡ c → MayCountDown x t n old → old < 2 ^ 64 → new ≡ (old + (2 ^ 64 - 1)) % 2 ^ 64
-    → CpuMay z x (index z (count_of c t)) (λ m. either (m == old) new m) (λ m. did (CountDown c) (down_reply old m)) (DownTold (CountDown c) old)
+pub count_down_may : (z : Settings) (x : CpuView) (c t n old new : ℕ) → x.id ≡ c → Locals.MayCountDown x t n old → old < 2 ^ 64 → new ≡ (old + (2 ^ 64 - 1)) % 2 ^ 64
+    → CpuMay z x (index z (count_of c t)) (λ m. either (m == old) new m) (λ m. did (CountDown c) (Locals.down_reply old m)) (Locals.DownTold (CountDown c) old)
 count_down_may z x c t n old new id may fits is_new = rw (← id, ← may.slot) (count_down_at z x may.entry old new may.giving (place_at x may.entry t n old may.slot may.number may.place) fits is_new)

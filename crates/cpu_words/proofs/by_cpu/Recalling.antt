@@ -35,7 +35,8 @@ live_number g t n good honest = record {
       (is.0, shown.0, shown.1, is.1);
 }
 
--- A load by which the CPU x sees all of the history, and has found f last; beside that nothing changes
+-- A load after which the CPU x has seen all of the history, and has found f last. Nothing else
+-- changes.
 
 abbrev seeing_lists : State → ℕ → List (Option Entry) → State
 seeing_lists g c found = record g { seen = set g.seen c (length g.history); found = found }

@@ -19,7 +19,8 @@ use Rattle.protocol.proofs.History.{Stood, ended_within, at_prefix, rank_low, st
 use Rattle.protocol.proofs.keeps.SearchKeeps.{IsAnswer, AnswersLookup, record_answers}
 use Rattle.protocol.proofs.Cells.{one_in}
 use Rattle.protocol.proofs.keeps.Searching.{Walks, stands_in, words_stand, search_walks, LinkTells, link_tells, head_ahead, at_next_ahead}
-use Rattle.cpu_words.specs.Common.{CpuView, View, Cpu, Spot, section_of, passive_of, count_of, head_word, next_of, record_of, word_at, index, cpu_view, cpu_of, depth_of, CpuShown, Agrees, Good, Ruled, GoesOn, did, Makes, CpuMay, sought, MaySeek, key_with, search_for, cpu_after_seek, search_with_place, MayLoadLink, link_answer, cpu_after_link, LinkHolds, MayStandOn, Descends, SkipsNone, KeepsPlace, PassTells, HasFollowed, HasLoadedLink, HasSought, IsAtWord, MayLoadSearched, every_word, loaded_of, loaded_answer, cpu_after_record_word, FoundHolds, HasSearched, HasLoadedWord, tells_compared}
+use Rattle.cpu_words.specs.Common.{CpuView, View, Cpu, Spot, section_of, passive_of, count_of, head_word, next_of, record_of, word_at, index, cpu_view, cpu_of, depth_of, CpuShown, Agrees, Good, Ruled, GoesOn, did, Makes, CpuMay, link_answer, MayStandOn, SkipsNone, IsAtWord, every_word, loaded_of, loaded_answer}
+use Rattle.cpu_words.specs.Sections
 use Rattle.cpu_words.proofs.shown.Showing.{goes_both, at_same}
 use Rattle.cpu_words.proofs.shown.Placing.{agrees_same}
 use Rattle.cpu_words.proofs.shown.Seeing.{attached_take, attached_prefix, taken_is_prefix, prefix_longer, take_whole, seen_of, idle_of}
@@ -39,7 +40,7 @@ loaded_words z words g l i m found agrees section passive counts =
 
 -- Where a search is, by the pass and by the history
 
-ends_prefix : (p h : List Change) (n k : ℕ) → IsPrefix p h → EndsAt p n k → EndsAt h n k
+pub ends_prefix : (p h : List Change) (n k : ℕ) → IsPrefix p h → EndsAt p n k → EndsAt h n k
 ends_prefix p h n k pre ends = ap (λ l. ended_by (change_at l k)) (sym pre.1) ∙ ap ended_by (at_prefix p pre.0 k (ended_within p n k ends).1) ∙ ends
 
 ends_take : (h : List Change) (to n k : ℕ) → to ≤ length h → EndsAt h n k → k ≤ to → EndsAt (take to h) n k
@@ -74,7 +75,7 @@ one_stands g c from to after t e f on walk here there =
     ap (λ (d : Entry). d.number) (one_in e f (slot_at g.slots t) (stands_in g c from to t e on walk here) (stands_in g c from after t f on walk there))
 
 descends : (g : State) (c n m s : ℕ) (q : Search) (p r : List Change) → Holds g → Walks g c q.start → r ≡ g.history → LinkTells g q.start q.key n m
-    → ((e : Entry) → MayStandOn p q s e → n ≤ rank_at r e.number) → Descends p q s m r
+    → ((e : Entry) → MayStandOn p q s e → n ≤ rank_at r e.number) → Sections.Descends p q s m r
 descends g c n zero s q p r on walk whole tells above = tt
 descends g c n (suc t) s q p r on walk whole tells above = λ e f old new.
     let one : f.number ≡ tells.0.number = one_stands g c q.start (length g.history) (length g.history) t tells.0 f on walk tells.1 (subst (λ h. MayStandOn h q t f) whole new) in
@@ -108,7 +109,7 @@ skips_none : (g : State) (c from n m : ℕ) → Holds g → Walks g c from → L
 skips_none g c from n m on walk since = by_leads m since.leads
   where
     -- what stood in the place at the point where the link leads
-    stood_then : (f : Entry) (kept : KeepsPlace g.history from f) → Stood g.history since.point kept.now
+    stood_then : (f : Entry) (kept : Sections.KeepsPlace g.history from f) → Stood g.history since.point kept.now
     stood_then f kept =
         stood g.history on.legal (length g.history) since.point kept.now kept.stays (omega (arith, kept.rank, rank_low g.history on.legal f.number, kept.live.begun, since.from_on)) since.up_to
 
@@ -126,7 +127,7 @@ skips_none g c from n m on walk since = by_leads m since.leads
           kept.rank,
         )
 
-pass_tells : (g : State) (c from : ℕ) → Holds g → Walks g c from → PassTells (begin_at g c) from g.history
+pass_tells : (g : State) (c from : ℕ) → Holds g → Walks g c from → Sections.PassTells (begin_at g c) from g.history
 pass_tells g c from on walk = record {
   legal = on.legal;
   since = λ b is. omega (arith, same_Some b walk.begin (sym is ∙ walk.open_since), walk.since);
@@ -138,7 +139,7 @@ pass_tells g c from on walk = record {
 
 abbrev pub next_search : Search → ℕ → Option Search
 next_search q zero = None
-next_search q (suc t) = Some (search_with_place q (AtNumber t))
+next_search q (suc t) = Some (Sections.search_with_place q (AtNumber t))
 
 abbrev pub next_found : Option Entry → ℕ → Option Entry
 next_found e zero = None
@@ -167,11 +168,11 @@ link_made : (g : State) (c : ℕ) (q : Search) (m : ℕ) → link_loaded g c q m
 link_made g c q zero = refl
 link_made g c q (suc t) = refl
 
-followed_is : (x : CpuView) (q : Search) (m : ℕ) (p : List Change) → record x { pass = p; search = next_search q m; found = next_found x.found m } ≡ cpu_after_link x q m p
+followed_is : (x : CpuView) (q : Search) (m : ℕ) (p : List Change) → record x { pass = p; search = next_search q m; found = next_found x.found m } ≡ Sections.cpu_after_link x q m p
 followed_is x q zero p = refl
 followed_is x q (suc t) p = refl
 
-link_holds : (g : State) (q : Search) (n m : ℕ) (p : List Change) → Good g → p ≡ g.history → LinkTells g q.start q.key n m → LinkHolds g.settings q m p
+link_holds : (g : State) (q : Search) (n m : ℕ) (p : List Change) → Good g → p ≡ g.history → LinkTells g q.start q.key n m → Sections.LinkHolds g.settings q m p
 link_holds g q n zero p good is tells = subst (λ h. IsLawful h q.start (length h) q.key None) (sym is) tells
 link_holds g q n (suc t) p good is tells = (omega (arith, tells.4, good.holds.shape.slots), omega (arith, tells.4, good.holds.shape.slots, ranges g.settings good.holds.fit))
 
@@ -179,7 +180,7 @@ link_holds g q n (suc t) p good is tells = (omega (arith, tells.4, good.holds.sh
 pub follows : (z : Settings) (s : Table ℕ View) (r : Ruled z s) (i : ℕ) (x : CpuView) (spot m n : ℕ) (q : Search) → get_elem? s.views i ≡ some (Cpu x) → x.search ≡ Some q
     → slice_index s.words spot ≡ m → load_link r.g x.id q q.place ≡ link_loaded r.g x.id q m → LinkTells r.g q.start q.key n m
     → LeadsSince r.g.history q.start n m → (q.place ≡ AtHead → n ≡ suc (length r.g.history)) → ((t : ℕ) (e : Entry) → q.place ≡ AtNext t → MayStandOn x.pass q t e → rank_at r.g.history e.number ≡ n)
-    → (y : CpuView) × GoesOn z s r (did (LoadLink x.id) (link_answer m)) (stepped s spot m i [] (Cpu y) keeps) × Makes (LoadLink x.id) (link_answer m) (Cpu x) (Cpu y) × HasFollowed x q m y
+    → (y : CpuView) × GoesOn z s r (did (LoadLink x.id) (link_answer m)) (stepped s spot m i [] (Cpu y) keeps) × Makes (LoadLink x.id) (link_answer m) (Cpu x) (Cpu y) × Sections.HasFollowed x q m y
 follows z s r i x spot m n q at under found link tells leads at_head above =
     let g = r.g in
     let had : CpuShown g x = (r.shows.fits i (Cpu x) at).1 in
@@ -200,14 +201,14 @@ follows z s r i x spot m n q at under found link tells leads at_head above =
     let shown = shown_on g x l had refl refl refl (had.depth ∙ ap depth_of seen.begin) more within
     (λ e is. found_on g x (get_or l.seen x.id 0) had more within e (found_before (found_at g x.id) m e (sym finds ∙ is))) in
     let done = cpu_makes z s r i x spot m l (LoadLink x.id) (link_answer m) x at made leaves (λ k. refl) refl shown (loaded_words z _ _ l _ _ found r.words refl refl refl) in
-    let change : y ≡ cpu_after_link x q m y.pass =
+    let change : y ≡ Sections.cpu_after_link x q m y.pass =
     (λ k. record y { search = searches k; found = finds k }) ∙ ap (λ (v : CpuView). record v { pass = y.pass; search = next_search q m; found = next_found v.found m }) (sym had.is)
     ∙ followed_is x q m y.pass in
     let longer : IsPrefix x.pass y.pass = subst (λ p. IsPrefix p y.pass) (sym seen.pass) (prefix_longer g.history (seen_at g x.id) (get_or l.seen x.id 0) more within) in
     let walk : Walks g x.id q.start = search_walks g x.id q r.good.holds (sym seen.search ∙ under) in
     let skips : SkipsNone y.pass q.start n m = subst (λ (p : List Change). SkipsNone p q.start n m) (sym passes) (skips_none g x.id q.start n m r.good.holds walk leads) in
-    let told : PassTells x.begin q.start y.pass = subst (λ (p : List Change). PassTells x.begin q.start p) (sym passes)
-    (subst (λ (b : Option ℕ). PassTells b q.start g.history) (sym seen.begin) (pass_tells g x.id q.start r.good.holds walk)) in
+    let told : Sections.PassTells x.begin q.start y.pass = subst (λ (p : List Change). Sections.PassTells x.begin q.start p) (sym passes)
+    (subst (λ (b : Option ℕ). Sections.PassTells b q.start g.history) (sym seen.begin) (pass_tells g x.id q.start r.good.holds walk)) in
     let size : length y.pass ≡ length g.history = ap (λ (p : List Change). length p) passes in (
       y,
       done.0,
@@ -215,7 +216,7 @@ follows z s r i x spot m n q at under found link tells leads at_head above =
       record {
         pass = longer;
         is = change;
-        holds = subst (λ (a : Settings). LinkHolds a q m y.pass) (sym seen.settings) (link_holds g q n m y.pass r.good passes tells);
+        holds = subst (λ (a : Settings). Sections.LinkHolds a q m y.pass) (sym seen.settings) (link_holds g q n m y.pass r.good passes tells);
         descends = λ t place. descends g x.id n m t q x.pass y.pass r.good.holds walk passes tells (λ e stands. omega (arith, above t e place stands, ap (λ (h : List Change). rank_at h e.number) passes));
         tells = told;
         first = λ place. subst (λ k. SkipsNone y.pass q.start k m) (at_head place ∙ ap suc (sym size)) skips;
@@ -226,7 +227,7 @@ follows z s r i x spot m n q at under found link tells leads at_head above =
 same_next : (s t : ℕ) → AtNext s ≡ AtNext t → s ≡ t
 same_next s t e = cc
 
-pub load_link_may : (z : Settings) (x : CpuView) (c t : ℕ) → x.id ≡ c → MayLoadLink x t → CpuDoes z x (next_of t) (λ n. n) (LoadLink c) link_answer HasLoadedLink
+pub load_link_may : (z : Settings) (x : CpuView) (c t : ℕ) → x.id ≡ c → Sections.MayLoadLink x t → CpuDoes z x (next_of t) (λ n. n) (LoadLink c) link_answer Sections.HasLoadedLink
 load_link_may z x c t id may = rw (← id)
     (λ s r i at fits.
     let g = r.g in
@@ -254,20 +255,20 @@ load_link_may z x c t id may = rw (← id)
     (subst (LinkTells g q.start q.key rank) (sym found) tells) (subst (LeadsSince g.history q.start rank) (sym found) leads) at_head above))
   where
     told : (z : Settings) (s : Table ℕ View) (r : Ruled z s) (i : ℕ) (x : CpuView) (spot m : ℕ) (q : Search) → x.search ≡ Some q
-        → (y : CpuView) × GoesOn z s r (did (LoadLink x.id) (link_answer m)) (stepped s spot m i [] (Cpu y) keeps) × Makes (LoadLink x.id) (link_answer m) (Cpu x) (Cpu y) × HasFollowed x q m y
+        → (y : CpuView) × GoesOn z s r (did (LoadLink x.id) (link_answer m)) (stepped s spot m i [] (Cpu y) keeps) × Makes (LoadLink x.id) (link_answer m) (Cpu x) (Cpu y) × Sections.HasFollowed x q m y
         → (w : View) × GoesOn z s r (did (LoadLink x.id) (link_answer m)) (stepped s spot m i [] w keeps)
-        × ((w ≡ Cpu (cpu_of w)) × (Makes (LoadLink x.id) (link_answer m) (Cpu x) (Cpu (cpu_of w)) × HasLoadedLink x m (cpu_of w)))
-    told z s r i x spot m q under done = (Cpu done.0, done.1, (refl, (done.2, λ p is. subst (λ (o : Search). HasFollowed x o m done.0) (same_Some q p (sym under ∙ is)) done.3)))
+        × ((w ≡ Cpu (cpu_of w)) × (Makes (LoadLink x.id) (link_answer m) (Cpu x) (Cpu (cpu_of w)) × Sections.HasLoadedLink x m (cpu_of w)))
+    told z s r i x spot m q under done = (Cpu done.0, done.1, (refl, (done.2, λ p is. subst (λ (o : Search). Sections.HasFollowed x o m done.0) (same_Some q p (sym under ∙ is)) done.3)))
 
 -- Seek touches no word: it is made with the load of the head
 
-begins_search : (z : Settings) (s : Table ℕ View) (r : Ruled z s) (i : ℕ) (x : CpuView) (spot m : ℕ) (kind : Kind) (name : Name) → get_elem? s.views i ≡ some (Cpu x) → MaySeek x
+begins_search : (z : Settings) (s : Table ℕ View) (r : Ruled z s) (i : ℕ) (x : CpuView) (spot m : ℕ) (kind : Kind) (name : Name) → get_elem? s.views i ≡ some (Cpu x) → Sections.MaySeek x
     → slice_index s.words spot ≡ m
-    → GoesOn z s r (did (Seek x.id kind name) Done) (stepped s spot m i [] (Cpu (cpu_after_seek (key_with kind name) x)) keeps)
-    × Makes (Seek x.id kind name) Done (Cpu x) (Cpu (cpu_after_seek (key_with kind name) x))
+    → GoesOn z s r (did (Seek x.id kind name) Done) (stepped s spot m i [] (Cpu (Sections.cpu_after_seek (Sections.key_with kind name) x)) keeps)
+    × Makes (Seek x.id kind name) Done (Cpu x) (Cpu (Sections.cpu_after_seek (Sections.key_with kind name) x))
 begins_search z s r i x spot m kind name at may found =
     let g = r.g in
-    let key = key_with kind name in
+    let key = Sections.key_with kind name in
     let had : CpuShown g x = (r.shows.fits i (Cpu x) at).1 in
     let seen = seen_of g x r.good had in
     let q : Search = record { key = key; start = seen_at g x.id; place = AtHead } in
@@ -278,20 +279,20 @@ begins_search z s r i x spot m kind name at may found =
     let shown = shown_on g x l had refl refl refl (had.depth ∙ ap depth_of seen.begin) (omega arith) seen.within (found_on g x (seen_at g x.id) had (omega arith) seen.within) in
     let done = cpu_makes z s r i x spot m l (Seek x.id kind name) Done x at made leaves (λ k. refl) refl shown (loaded_words z _ _ l _ _ found r.words refl refl refl) in
     let size : length x.pass ≡ seen_at g x.id = ap (λ (p : List Change). length p) seen.pass ∙ length-take-le (seen_at g x.id) g.history seen.within in
-    let start : q ≡ search_for key x = λ k. record { key = key; start = sym size k; place = AtHead } in
-    let search : y.search ≡ Some (search_for key x) = get_or-set_same g.searches x.id (Some q) None seen.in_searches ∙ ap (λ (o : Search). Some o) start in
-    let change : y ≡ cpu_after_seek key x = (λ k. record y { search = search k }) ∙ ap (λ (v : CpuView). record v { search = Some (search_for key x) }) (sym had.is) in
+    let start : q ≡ Sections.search_for key x = λ k. record { key = key; start = sym size k; place = AtHead } in
+    let search : y.search ≡ Some (Sections.search_for key x) = get_or-set_same g.searches x.id (Some q) None seen.in_searches ∙ ap (λ (o : Search). Some o) start in
+    let change : y ≡ Sections.cpu_after_seek key x = (λ k. record y { search = search k }) ∙ ap (λ (v : CpuView). record v { search = Some (Sections.search_for key x) }) (sym had.is) in
     subst (λ (v : CpuView). GoesOn z s r (did (Seek x.id kind name) Done) (stepped s spot m i [] (Cpu v) keeps) × Makes (Seek x.id kind name) Done (Cpu x) (Cpu v)) change done
 
-seek_at : (z : Settings) (x : CpuView) (kind : Kind) (name : Name) → MaySeek x → CpuMay z x (index z head_word) (λ n. n) (sought (Seek x.id kind name)) (HasSought (Seek x.id kind name))
+seek_at : (z : Settings) (x : CpuView) (kind : Kind) (name : Name) → Sections.MaySeek x → CpuMay z x (index z head_word) (λ n. n) (Sections.sought (Seek x.id kind name)) (Sections.HasSought (Seek x.id kind name))
 seek_at z x kind name may s r i at fits =
-    let key = key_with kind name in
+    let key = Sections.key_with kind name in
     let m = slice_index s.words (index z head_word) in
     let begun = begins_search z s r i x (index z head_word) m kind name at may refl in
-    let v = cpu_after_seek key x in
+    let v = Sections.cpu_after_seek key x in
     let t : Table ℕ View = stepped s (index z head_word) m i [] (Cpu v) keeps in
     let found : slice_index t.words (index z head_word) ≡ m = ap (λ (ws : List ℕ). slice_index ws (index z head_word)) (set-get_or s.words (index z head_word) 0) in
-    let after = seek_link z t begun.0.ruled i v m (search_for key x) (at_same s.views i (Cpu x) (Cpu v) at) refl refl found in
+    let after = seek_link z t begun.0.ruled i v m (Sections.search_for key x) (at_same s.views i (Cpu x) (Cpu v) at) refl refl found in
     let same : stepped t (index z head_word) m i [] (Cpu after.0) keeps ≡ stepped s (index z head_word) m i [] (Cpu after.0) keeps =
     λ k. record { words = set-set s.words (index z head_word) m m k; homes = s.homes; views = set-set s.views i (Cpu v) (Cpu after.0) k } in (
       Cpu after.0,
@@ -303,7 +304,7 @@ seek_at z x kind name may s r i at fits =
     seek_link : (z : Settings) (t : Table ℕ View) (r : Ruled z t) (i : ℕ) (v : CpuView) (m : ℕ) (q : Search) → get_elem? t.views i ≡ some (Cpu v) → v.search ≡ Some q → q.place ≡ AtHead
         → slice_index t.words (index z head_word) ≡ m
         → (y : CpuView) × GoesOn z t r (did (LoadLink v.id) (link_answer m)) (stepped t (index z head_word) m i [] (Cpu y) keeps) × Makes (LoadLink v.id) (link_answer m) (Cpu v) (Cpu y)
-        × HasFollowed v q m y
+        × Sections.HasFollowed v q m y
     seek_link z t r i v m q at under place is =
         let g = r.g in
         let had : CpuShown g v = (r.shows.fits i (Cpu v) at).1 in
@@ -317,8 +318,8 @@ seek_at z x kind name may s r i at fits =
         (λ at_head. refl)
         (λ u e next stands. absurd (let wrong : AtHead ≡ AtNext u = sym place ∙ next in cc))
 
-pub seek_may : (z : Settings) (x : CpuView) (c : ℕ) (kind : Kind) (name : Name) → x.id ≡ c → MaySeek x
-    → CpuMay z x (index z head_word) (λ n. n) (sought (Seek c kind name)) (HasSought (Seek c kind name))
+pub seek_may : (z : Settings) (x : CpuView) (c : ℕ) (kind : Kind) (name : Name) → x.id ≡ c → Sections.MaySeek x
+    → CpuMay z x (index z head_word) (λ n. n) (Sections.sought (Seek c kind name)) (Sections.HasSought (Seek c kind name))
 seek_may z x c kind name id may = rw (← id) (seek_at z x kind name may)
 
 -- Record words
@@ -375,7 +376,7 @@ makes_some q (AtLow s m w h) t k n at = (loaded_of_name s m n (are_words_of q.ke
 makes_some q (AtValue s m) t k n at = (Over (entry_with q.key s m n), refl)
 
 abbrev pub loaded_search : Search → Loaded → Option Search
-loaded_search q (On p w) = Some (search_with_place q p)
+loaded_search q (On p w) = Some (Sections.search_with_place q p)
 loaded_search q (Over e) = None
 
 abbrev pub loaded_found : Option Entry → Loaded → Option Entry
@@ -401,15 +402,15 @@ loaded_made : (g : State) (c : ℕ) (q : Search) (o : Loaded) → outcome_of g c
 loaded_made g c q (On p w) = refl
 loaded_made g c q (Over e) = refl
 
-searched_is : (x : CpuView) (q : Search) (o : Loaded) → record x { search = loaded_search q o; found = loaded_found x.found o } ≡ cpu_after_record_word x q (Some o)
+searched_is : (x : CpuView) (q : Search) (o : Loaded) → record x { search = loaded_search q o; found = loaded_found x.found o } ≡ Sections.cpu_after_record_word x q (Some o)
 searched_is x q (On p w) = refl
 searched_is x q (Over e) = refl
 
-found_holds : (h : List Change) (n : ℕ) (q : Search) (o : Loaded) → n ≤ length h → IsAnswer h q.start n q.key (loaded_answer (Some o)) → FoundHolds q (Some o) (take n h)
+found_holds : (h : List Change) (n : ℕ) (q : Search) (o : Loaded) → n ≤ length h → IsAnswer h q.start n q.key (loaded_answer (Some o)) → Sections.FoundHolds q (Some o) (take n h)
 found_holds h n q (On p w) le answer = tt
 found_holds h n q (Over e) le answer = found_in_pass h q.start n q.key e le answer
 
-found_shown : (p : List Change) (q : Search) (old : Option Entry) (o : Loaded) → ((e : Entry) → old ≡ Some e → IsAttached p e) → FoundHolds q (Some o) p → (e : Entry) → loaded_found old o ≡ Some e
+found_shown : (p : List Change) (q : Search) (old : Option Entry) (o : Loaded) → ((e : Entry) → old ≡ Some e → IsAttached p e) → Sections.FoundHolds q (Some o) p → (e : Entry) → loaded_found old o ≡ Some e
     → IsAttached p e
 found_shown p q old (On place w) before holds e is = before e is
 found_shown p q old (Over f) before holds e is = subst (IsAttached p) (same_Some f e is) holds.1
@@ -418,7 +419,7 @@ searches_word : (z : Settings) (s : Table ℕ View) (r : Ruled z s) (i : ℕ) (x
     → slice_index s.words spot ≡ m → loaded_of (Some q) m ≡ Some o → loaded_at q q.place (row_of_place r.g.rows q.place) ≡ Some o
     → ((t k : ℕ) → IsAtWord q.place t k → word (row_at r.g.rows t) k ≡ m)
     → (y : CpuView) × GoesOn z s r (did (LoadRecord (OfSearch x.id)) (loaded_answer (Some o))) (stepped s spot m i [] (Cpu y) keeps)
-    × Makes (LoadRecord (OfSearch x.id)) (loaded_answer (Some o)) (Cpu x) (Cpu y) × HasSearched x q m y
+    × Makes (LoadRecord (OfSearch x.id)) (loaded_answer (Some o)) (Cpu x) (Cpu y) × Sections.HasSearched x q m y
 searches_word z s r i x spot m q o at under found makes load worded =
     let g = r.g in
     let had : CpuShown g x = (r.shows.fits i (Cpu x) at).1 in
@@ -433,14 +434,14 @@ searches_word z s r i x spot m q o at under found makes load worded =
     let made : step g (LoadRecord (OfSearch x.id)) ≡ Some (record { state = with_lists g l; reply = loaded_answer (Some o) }) =
     ap (λ (p : Option Search). with_some p (λ p. load_searched g x.id p p.place)) searching ∙ outcome in
     let answer : IsAnswer g.history q.start sees q.key (loaded_answer (Some o)) = subst (AnswersLookup x.id q) outcome (record_answers g x.id q r.good.holds searching) in
-    let holds : FoundHolds q (Some o) (take sees g.history) = found_holds g.history sees q o seen.within answer in
+    let holds : Sections.FoundHolds q (Some o) (take sees g.history) = found_holds g.history sees q o seen.within answer in
     let leaves = same_counts g x.id l refl refl refl refl (λ d ne. refl) (λ d ne. refl) (λ d ne. refl) (λ d ne. refl)
     (λ d ne. get_or-set_other g.searches x.id d _ None ne) (λ d ne. founds_there g.found x.id d o ne) in
     let shown = shown_on g x l had refl refl refl (had.depth ∙ ap depth_of seen.begin) (omega arith) seen.within
     (λ e is. found_shown (take sees g.history) q (found_at g x.id) o (found_on g x sees had (omega arith) seen.within) holds e (sym finds ∙ is)) in
     let done = cpu_makes z s r i x spot m l (LoadRecord (OfSearch x.id)) (loaded_answer (Some o)) x at made leaves (λ k. refl) refl shown
     (loaded_words z _ _ l _ _ found r.words refl refl refl) in
-    let change : y ≡ cpu_after_record_word x q (Some o) =
+    let change : y ≡ Sections.cpu_after_record_word x q (Some o) =
     (λ k. record y { search = searches k; found = finds k }) ∙ ap (λ (v : CpuView). record v { search = loaded_search q o; found = loaded_found v.found o }) (sym had.is) ∙ searched_is x q o in
     let on = r.good.holds in
     let walk : Walks g x.id q.start = search_walks g x.id q on searching in
@@ -457,12 +458,12 @@ searches_word z s r i x spot m q o at under found makes load worded =
       y,
       done.0,
       done.1,
-      record { is = change ∙ ap (cpu_after_record_word x q) (sym makes); holds = subst (λ (u : Option Loaded). FoundHolds q u y.pass) (sym makes) holds; number = number; words = each_word },
+      record { is = change ∙ ap (Sections.cpu_after_record_word x q) (sym makes); holds = subst (λ (u : Option Loaded). Sections.FoundHolds q u y.pass) (sym makes) holds; number = number; words = each_word },
     )
 
-pub load_searched_may : (z : Settings) (x : CpuView) (c t k : ℕ) → x.id ≡ c → MayLoadSearched x t k
+pub load_searched_may : (z : Settings) (x : CpuView) (c t k : ℕ) → x.id ≡ c → Sections.MayLoadSearched x t k
     → CpuMay z x (index z (record_of t k)) (λ n. n) (λ n. did (LoadRecord (OfSearch c)) (loaded_answer (loaded_of x.search n)))
-    (λ v n y. Makes (LoadRecord (OfSearch c)) (loaded_answer (loaded_of v.search n)) (Cpu v) (Cpu y) × HasLoadedWord v n y)
+    (λ v n y. Makes (LoadRecord (OfSearch c)) (loaded_answer (loaded_of v.search n)) (Cpu v) (Cpu y) × Sections.HasLoadedWord v n y)
 load_searched_may z x c t k id may = rw (← id)
     (λ s r i at fits.
     let g = r.g in
@@ -485,15 +486,15 @@ load_searched_may z x c t k id may = rw (← id)
         refl,
         (
           subst (λ (a : Reply). Makes (LoadRecord (OfSearch x.id)) a (Cpu x) (Cpu done.0)) answer done.2,
-          λ p is. subst (λ (u : Search). HasSearched x u m done.0) (same_Some q p (sym may.under_way ∙ is)) done.3,
+          λ p is. subst (λ (u : Search). Sections.HasSearched x u m done.0) (same_Some q p (sym may.under_way ∙ is)) done.3,
         ),
       ),
     ))
 
 -- The value of the entry that a search has compared: nothing changes
 
-pub load_compared_may : (z : Settings) (x : CpuView) (c t : ℕ) → x.id ≡ c → MayLoadLink x t
-    → CpuMay z x (index z (record_of t 4)) (λ n. n) (λ n. did (LoadRecord (Compared c)) (Word n)) (tells_compared (LoadRecord (Compared c)) (index z (record_of t 4)))
+pub load_compared_may : (z : Settings) (x : CpuView) (c t : ℕ) → x.id ≡ c → Sections.MayLoadLink x t
+    → CpuMay z x (index z (record_of t 4)) (λ n. n) (λ n. did (LoadRecord (Compared c)) (Word n)) (Sections.tells_compared (LoadRecord (Compared c)) (index z (record_of t 4)))
 load_compared_may z x c t id may = rw (← id)
     (λ s r i at fits.
     let g = r.g in

@@ -9,8 +9,8 @@ use Rattle.atomic_table.specs.Table.{keeps, stepped}
 use Rattle.cpu_words.specs.Types.{Entry, Mark, Due, Change, Settings, Slot, Retired, Rest, Snapshots, Event, Look, Snapshot, Word, Vacant, Adding, PassiveLook, Collect}
 use Rattle.registry_values.specs.Common.{no_mark, slot_at, mark_after_look, have_passed, are_clear, mark_after_passive_look, mark_after_collect}
 use Rattle.registry_values.proofs.Fit.{ranges}
-use Rattle.protocol.specs.Common.{State, with_cell, cell, mark_at, count_at, total_at, AreRows, IsIn, subtraction_due_at, addition_due_at, is_adding_at, section_at, at_rest, step, snapshot_mark, DueHolds, passive_at}
-use Rattle.protocol.proofs.Cells.{cell_cases, row_here, row_other, cell_here, cell_other}
+use Rattle.protocol.specs.Common.{State, with_cell, mark_at, count_at, total_at, AreRows, IsIn, subtraction_due_at, addition_due_at, is_adding_at, section_at, at_rest, step, snapshot_mark, DueHolds, passive_at}
+use Rattle.protocol.proofs.Cells.{row_here, row_other, cell_here, cell_other, cell_put}
 use Rattle.protocol.proofs.Occupied.{in_within}
 use Rattle.protocol.proofs.counts.Sums.{one_self, one_other}
 use Rattle.cpu_words.specs.Common.{KeeperView, number_at, keeper_view, KeeperShown, GivesUp, collected_net, collected_one, Good, Keeper, section_of, index, GoesOn, by_number, did, MayGlance, MayLook, MaySnapshot, due_next, LookTold, keeper_after_look, passive_of, count_of, Agrees, MayPassiveLook, LookedPassiveTold, MayCollect, CollectTold}
@@ -26,13 +26,6 @@ sum_marked f [] ns c m lt there = absurd (omega arith)
 sum_marked f (x ∷ ms) [] c m lt there = absurd (omega arith)
 sum_marked f (x ∷ ms) (n ∷ ns) zero m lt there = omega (arith, sum_by-cons f (x, n) (zip ms ns), sum_by-cons f (m, n) (zip ms ns))
 sum_marked f (x ∷ ms) (n ∷ ns) (suc c) m lt there = omega (arith, sum_marked f ms ns c m (omega arith) (omega arith), sum_by-cons f (x, n) (zip ms ns), sum_by-cons f (x, n) (zip (set ms c m) ns))
-
--- what is so of the written cell, and was so of each, is so of each
-pub cell_put : {X : Type 0} (d : X) (rows : List (List X)) (t c : ℕ) (x : X) (P : ℕ → ℕ → X → Type 0) (u j : ℕ) → P t c x → P u j (cell d rows u j) → P u j (cell d (with_cell rows t c x) u j)
-cell_put d rows t c x P u j here was = ⊎_elim
-    (λ (at : (u ≡ t) × (j ≡ c) × (cell d (with_cell rows t c x) u j ≡ x)). subst (P u j) (sym at.2) (subst (λ (k : ℕ × ℕ). P k.0 k.1 x) (λ i. (sym at.0 i, sym at.1 i)) here))
-    (λ (off : cell d (with_cell rows t c x) u j ≡ cell d rows u j). subst (P u j) (sym off) was)
-    (cell_cases d rows t c x u j)
 
 pub same_collected : (g : State) (t c : ℕ) (m : Mark) → m.collected ≡ (mark_at g.marks t c).collected → (u d : ℕ) → (mark_at g.marks u d).collected ≡ true
     → (mark_at (with_cell g.marks t c m) u d).collected ≡ true

@@ -7,7 +7,7 @@ use Rattle.atomic_table.specs.Table.{State as Table, keeps, stepped}
 use Rattle.cpu_words.specs.Types.{Settings, StoreSlot, StoreNext, Done, RecordWords, Slot, Vacant, Rest, Entry, Live, Event, Show, Hide}
 use Rattle.registry_values.specs.Common.{slot_at}
 use Rattle.registry_values.proofs.Fit.{ranges}
-use Rattle.protocol.specs.Common.{State, no_words, with_cell, row_at, count_at, step, word, with_word, is_honest}
+use Rattle.protocol.specs.Common.{State, no_words, with_cell, row_at, count_at, step, word, with_word, is_honest, after_count_store}
 use Rattle.protocol.proofs.Cells.{by_cell, cell_here, cell_other}
 use Rattle.protocol.proofs.keeps.ListKeeps.{rows_cell}
 use Rattle.protocol.proofs.Occupied.{in_within}
@@ -99,15 +99,12 @@ store_record_may z k t j v lt may s r i at fits =
 
 -- Count words
 
-abbrev with_count : State → ℕ → ℕ → ℕ → State
-with_count g t c v = record g { counts = with_cell g.counts t c v }
-
 count_words : (z : Settings) (words : List ℕ) (g : State) (t c v : ℕ) → Good g → t < g.settings.slots → c < g.settings.cpus → Agrees z words g
-    → Agrees z (set words (index z (count_of c t)) v) (with_keeper g (with_count g t c v))
+    → Agrees z (set words (index z (count_of c t)) v) (with_keeper g (after_count_store g t c v))
 count_words z words g t c v good slot lt agrees =
     let within : t < length g.counts = omega (arith, good.holds.shape.counts) in
     let in_row : c < length (get_or g.counts t []) = omega (arith, good.holds.shape.count_rows t within, (ranges g.settings good.holds.fit).cpus) in
-    agrees_set z words g (with_keeper g (with_count g t c v)) (count_of c t) v agrees refl (lt, slot) (cell_here 0 g.counts t c v within in_row)
+    agrees_set z words g (with_keeper g (after_count_store g t c v)) (count_of c t) v agrees refl (lt, slot) (cell_here 0 g.counts t c v within in_row)
     (elim [ count_of d u ↦ λ _ ne. cell_other 0 g.counts t c v u d (λ at_slot at_cpu. ne ((λ k. count_of (at_cpu k) u) ∙ ap (count_of c) at_slot)) | _ ↦ λ _ _. refl ])
 
 -- the keeper's own row of count words follows
@@ -128,7 +125,7 @@ store_count_may z k t c v within may s r i at fits =
     let had : KeeperShown g k = (r.shows.fits i (Keeper k) at).1 in
     let on = stores_of g k t r.good had may in
     let lt : c < g.settings.cpus = subst (λ (a : Settings). c < a.cpus) on.seen.settings within in
-    let l = with_count g t c v in
+    let l = after_count_store g t c v in
     let own : KeeperView = record k { counts = with_cell k.counts t c v } in
     let back : (5 + c) - 5 ≡ c = omega arith in
     let made : step g (StoreSlot t (5 + c) v) ≡ Some (record { state = with_keeper g l; reply = Done }) =

@@ -14,7 +14,8 @@ use Rattle.protocol.proofs.counts.Sums.{one_self, one_other, local_changed, stan
 use Rattle.protocol.proofs.keeps.References.{due_adding, due_subtracting}
 use Rattle.protocol.proofs.keeps.MarkKeeps.{mark_place}
 use Rattle.protocol.proofs.counts.Bounds.{adding_range, adding_within, subtracting_range}
-use Rattle.cpu_words.specs.Common.{KeeperView, ReferenceView, Logged, View, Keeper, Reference, total_of, index, keeper_view, number_at, one_more, IsCollectedFor, KeeperShown, ReferenceShown, GivesUp, keeper_of, reference_of, Agrees, Good, number_or_none, did, JoinsBy, MayTotalAdd, TotalAddTold, MayTotalSub, TotalSubTold, MayJoinKeeper, keeper_after_join, with_given_up, LoggedRuled, joined_seat, spent_seat, gives_up}
+use Rattle.cpu_words.specs.Common.{KeeperView, ReferenceView, Logged, View, Keeper, Reference, total_of, index, keeper_view, number_at, one_more, IsCollectedFor, KeeperShown, ReferenceShown, GivesUp, keeper_of, reference_of, Agrees, Good, number_or_none, did, JoinsBy, LoggedRuled, joined_seat, spent_seat, gives_up}
+use Rattle.cpu_words.specs.Draining
 use Rattle.cpu_words.proofs.shown.Showing.{JoinsSo, joins_on, reference_place}
 use Rattle.cpu_words.proofs.logs.Logs.{seat_join}
 use Rattle.cpu_words.proofs.shown.Placing.{agrees_set}
@@ -75,7 +76,7 @@ shown_added g k t old good had due = assumption (
         omega (arith, was, total_other g.totals t v u off, ap (addition_due_at u) due ∙ ap (λ (b : Bool). cond b old 0) (ne_eqb t u ne), ap (is_adding_at u) due ∙ one_other t u ne, none))
         (cases_eq u t)
 
-pub total_add_may : (z : Settings) (k : KeeperView) (t old value : ℕ) → MayTotalAdd k t old value → KeeperPuts z k (total_of t) value (TotalAdd t) (TotalAddTold (TotalAdd t))
+pub total_add_may : (z : Settings) (k : KeeperView) (t old value : ℕ) → Draining.MayTotalAdd k t old value → KeeperPuts z k (total_of t) value (TotalAdd t) (Draining.TotalAddTold (TotalAdd t))
 total_add_may z k t old value may s r i at fits =
     let g = r.g in
     let had : KeeperShown g k = (r.shows.fits i (Keeper k) at).1 in
@@ -148,8 +149,8 @@ shown_subtracted g k t e good had retired due =
     omega (arith, had.gives_up u f gone, less u, d.0, d.1, d.2) in
     assumption (lives, given, had)
 
-pub total_sub_may : (z : Settings) (k : KeeperView) (t : ℕ) → MayTotalSub k t
-    → KeeperDoes z k (total_of t) (λ n. (n + (2 ^ 64 - 1)) % 2 ^ 64) (TotalSub t) (λ _. Done) (λ v _ l. TotalSubTold (TotalSub t) v l)
+pub total_sub_may : (z : Settings) (k : KeeperView) (t : ℕ) → Draining.MayTotalSub k t
+    → KeeperDoes z k (total_of t) (λ n. (n + (2 ^ 64 - 1)) % 2 ^ 64) (TotalSub t) (λ _. Done) (λ v _ l. Draining.TotalSubTold (TotalSub t) v l)
 total_sub_may z k t may s r i at fits =
     let g = r.g in
     let had : KeeperShown g k = (r.shows.fits i (Keeper k) at).1 in
@@ -178,7 +179,7 @@ record CollectedOf (g : State) (v : ReferenceView) : Type 0 where
   retired : slot_at g.slots v.entry.slot ≡ Retired v.entry
   some_one : is_some_collected g.settings.cpus (get_or g.marks v.entry.slot []) ≡ true
 
-collected_of : (g : State) (k : KeeperView) (v : ReferenceView) → Good g → KeeperShown g k → ReferenceShown g v → MayJoinKeeper k v → CollectedOf g v
+collected_of : (g : State) (k : KeeperView) (v : ReferenceView) → Good g → KeeperShown g k → ReferenceShown g v → Draining.MayJoinKeeper k v → CollectedOf g v
 collected_of g k v good had ref may = ⊎_elim
     (λ (there : (c : ℕ) × (v.collected ≡ Some c)). by_release there.0 (ref.collected there.0 there.1))
     (λ (there : (t : ℕ) × (c : ℕ) × (e : Entry) × (slot_at k.slots t ≡ Retired e) × (e.number ≡ v.entry.number) × ((mark_at k.marks t c).collected ≡ true)).
@@ -205,7 +206,7 @@ collected_of g k v good had ref may = ⊎_elim
           subst (λ (u : ℕ). (mark_at g.marks u c).collected ≡ true) slot (ap (λ (x : List (List Mark)). (mark_at x t c).collected) (sym seen.marks) ∙ marked),
         )
 
-keeper_joins : (k : KeeperView) (v : ReferenceView) → MayJoinKeeper k v → JoinsSo JoinKeeper (Keeper k) (Reference v) (Keeper (keeper_after_join k v))
+keeper_joins : (k : KeeperView) (v : ReferenceView) → Draining.MayJoinKeeper k v → JoinsSo JoinKeeper (Keeper k) (Reference v) (Keeper (Draining.keeper_after_join k v))
 keeper_joins k v may g good had ref backs =
     let n = v.entry.number in
     let t = v.entry.slot in
@@ -247,14 +248,14 @@ keeper_joins k v may g good had ref backs =
 
 -- the same of seats' views
 pub joins_keeper : (z : Settings) (i : ℕ) (x : Logged) (o : ℕ) (u : Logged) (k : KeeperView) (v : ReferenceView) → x ≡ record x { view = Keeper (keeper_of x.view) } → x.ended ≡ false
-    → keeper_of x.view ≡ k → u ≡ record u { view = Reference (reference_of u.view) } → u.ended ≡ false → reference_of u.view ≡ v → MayJoinKeeper k v → TableJoins (LoggedRuled z) i x o u (joined_seat with_given_up gives_up x u) spent_seat
+    → keeper_of x.view ≡ k → u ≡ record u { view = Reference (reference_of u.view) } → u.ended ≡ false → reference_of u.view ≡ v → Draining.MayJoinKeeper k v → TableJoins (LoggedRuled z) i x o u (joined_seat Draining.with_given_up gives_up x u) spent_seat
 joins_keeper z i x o u k v keeper going k_is ref other v_is may =
-    seat_join z i o x u (Keeper k) (Reference v) with_given_up gives_up (did (JoinKeeper v.entry.number) Done) (keeper ∙ ap (λ (y : KeeperView). record x { view = Keeper y }) k_is)
+    seat_join z i o x u (Keeper k) (Reference v) Draining.with_given_up gives_up (did (JoinKeeper v.entry.number) Done) (keeper ∙ ap (λ (y : KeeperView). record x { view = Keeper y }) k_is)
     (ref ∙ ap (λ (y : ReferenceView). record u { view = Reference y }) v_is) going other tt (refl, tt) (refl, tt) (refl, tt) refl
-    (joins_on z i (Keeper k) o (Reference v) (Keeper (keeper_after_join k v)) JoinKeeper (keeper_joins k v may) (refl, refl) (λ seat sits. sits))
+    (joins_on z i (Keeper k) o (Reference v) (Keeper (Draining.keeper_after_join k v)) JoinKeeper (keeper_joins k v may) (refl, refl) (λ seat sits. sits))
 
-pub join_keeper_by : (x u y : View) (k : KeeperView) (v : ReferenceView) → keeper_of x ≡ k → reference_of u ≡ v → y ≡ with_given_up x u → MayJoinKeeper k v
+pub join_keeper_by : (x u y : View) (k : KeeperView) (v : ReferenceView) → keeper_of x ≡ k → reference_of u ≡ v → y ≡ Draining.with_given_up x u → Draining.MayJoinKeeper k v
     → JoinsBy JoinKeeper (Keeper k) (Reference v) (Keeper (keeper_of y))
 join_keeper_by x u y k v k_is v_is y_is may =
-    let is : keeper_of y ≡ keeper_after_join k v = ap keeper_of y_is ∙ (λ j. keeper_after_join (k_is j) (v_is j)) in
+    let is : keeper_of y ≡ Draining.keeper_after_join k v = ap keeper_of y_is ∙ (λ j. Draining.keeper_after_join (k_is j) (v_is j)) in
     subst (λ w. JoinsBy JoinKeeper (Keeper k) (Reference v) (Keeper w)) (sym is) (λ g good had ref backs. (keeper_joins k v may g good had ref backs).makes)

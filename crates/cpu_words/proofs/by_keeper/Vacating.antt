@@ -10,7 +10,7 @@ use Rattle.cpu_words.specs.Types.{MOST_CPUS, Entry, Slot, Vacant, Retired, Mark,
 use Rattle.registry_values.specs.Common.{bias, slot_at, have_passed, are_clear, are_collected, slot_of, is_iface}
 use Rattle.registry_values.proofs.Fit.{ranges}
 use Rattle.protocol.specs.Common.{State, mark_at, passive_at, trying_at, count_at, total_at, is_drained, IsIn, Occupies, kept_at, step, after_vacate}
-use Rattle.protocol.proofs.keeps.MarkKeeps.{is_drained_tells}
+use Rattle.protocol.proofs.keeps.MarkKeeps.{is_drained_tells, vacated}
 use Rattle.protocol.proofs.Occupied.{written_cases, in_other, in_vacated, one_number, retired_other, slot_has}
 use Rattle.protocol.proofs.Cells.{get_or_all, cell_in_old, slot_other}
 use Rattle.protocol.proofs.counts.Bounds.{driver_positive}
@@ -62,12 +62,8 @@ drained_of g k t good had drained =
           (cases_lt c g.settings.cpus);
     }
 
--- the slot t is vacant; totals and what slots keep may change beside it
-abbrev pub vacating : State → ℕ → List ℕ → List (Option ℕ) → State
-vacating g t totals keeps = record g { totals = totals; slots = set g.slots t Vacant; keeps = keeps }
-
 -- the CPUs' views stay
-pub vacated_leaves : (g : State) (t : ℕ) (e : Entry) (totals : List ℕ) (keeps : List (Option ℕ)) → Good g → Drained g t e → LeavesCpus g (vacating g t totals keeps)
+pub vacated_leaves : (g : State) (t : ℕ) (e : Entry) (totals : List ℕ) (keeps : List (Option ℕ)) → Good g → Drained g t e → LeavesCpus g (vacated g t totals keeps)
 vacated_leaves g t e totals keeps good drained = record {
   seated = omega arith;
   more = ([], sym (append-nil g.history));
@@ -145,7 +141,7 @@ kept_of g k t u may good had =
 
 -- the state after it, and the view's own counts
 abbrev giving_back : State → ℕ → ℕ → State
-giving_back g t u = vacating g t (set g.totals u (total_at g.totals u - 1)) (set g.keeps t None)
+giving_back g t u = vacated g t (set g.totals u (total_at g.totals u - 1)) (set g.keeps t None)
 
 abbrev own_after : KeeperView → ℕ → ℕ → KeeperView
 own_after k t n = record k { counts = set k.counts t (replicate MOST_CPUS 0); given_up = one_more k.given_up n }
@@ -223,7 +219,7 @@ kept_sub_change k l t u may told =
 
 -- the state after it, and the keeper's view
 abbrev emptied : State → ℕ → State
-emptied g t = vacating g t g.totals g.keeps
+emptied g t = vacated g t g.totals g.keeps
 
 shown_vacated : (g : State) (k : KeeperView) (t : ℕ) (e : Entry) → KeeperShown g k → Drained g t e
     → KeeperShown (with_keeper g (emptied g t)) (keeper_view (with_keeper g (emptied g t)) ((keeper_after_vacate k t)))

@@ -24,7 +24,9 @@ use Rattle.protocol.proofs.keeps.Linking.{within_live}
 use Rattle.protocol.proofs.Cells.{slot_here}
 use Rattle.protocol.proofs.keeps.CountKeeps.{live_tells}
 use Rattle.protocol.proofs.runs.Fresh.{honest_tells}
-use Rattle.cpu_words.specs.Common.{LogItem, Logged, View, Good, ShowsViews, IsDetachedFrom, IsFreedFrom, part, without_logs, AreByOwn, EndedSeat, LoggedRuled, EndsRunForAll, EndedRunsForAll, CountExactly, FreesNoLocals, FreesNoneHeld, IsWholeIn, IsStillThere, cpu_end, end_of, RunsAsLogged, IsGone, FreedIsGone, FreedByKeeper, Sits, IsStanding, KeeperView, Keeper, log_item, changes_in, keeping, KeepsDriver, AttachedKeeps, Agrees, EndedRuns, EndsRun, EndsRunFor, CpuShown, CpuView, Cpu, IsGoneFrom, KeeperShown, Shown, live_of, passive_by, references_to, KeepsAsLong, IsAttachedKeeping, by_number}
+use Rattle.cpu_words.specs.Common.{LogItem, Logged, View, Good, ShowsViews, IsDetachedFrom, IsFreedFrom, part, without_logs, AreByOwn, EndedSeat, LoggedRuled, IsStillThere, end_of, RunsAsLogged, Sits, IsStanding, KeeperView, Keeper, log_item, changes_in, keeping, Agrees, CpuShown, CpuView, Cpu, KeeperShown, Shown, live_of, references_to, IsAttachedKeeping, by_number}
+use Rattle.cpu_words.specs.Freed as specs
+use Rattle.cpu_words.specs.Held
 use Rattle.cpu_words.proofs.logs.Loads.{run_as_logged, same_event, place, halve}
 use Rattle.cpu_words.proofs.shown.Seeing.{attached_prefix, prefix_both, taken_is_prefix}
 use Rattle.cpu_words.proofs.shown.Showing.{backed}
@@ -115,7 +117,7 @@ since_freed cpus log m d more (e ∷ es) g t k run on known gone of =
 -- The law
 
 -- what no slot has is held by no seat
-gone_of : (m g : State) (seat : ℕ → ℕ) (s : Table ℕ View) (t k : ℕ) → Good g → ShowsViews g seat s.views → IsPrefix m.history g.history → Freed m g t k → IsGone g s t k
+gone_of : (m g : State) (seat : ℕ → ℕ) (s : Table ℕ View) (t k : ℕ) → Good g → ShowsViews g seat s.views → IsPrefix m.history g.history → Freed m g t k → specs.IsGone g s t k
 gone_of m g seat s t k good shows grows f =
     let attached : IsAttached g.history f.e = attached_prefix m.history g.history f.e grows f.attached in
     let none : Occupies g.slots k → ⊥ = λ has. f.off has.0 (number_of (slot_at g.slots has.0) has.1 has.2 ∙ ap (λ (j : ℕ). Some j) has.3) in
@@ -174,7 +176,7 @@ at_item z s log before after_it item r known log_is =
     }
 
 pub gone_by : (z : Settings) (s : Table ℕ Logged) (log : List LogItem) (t n : ℕ) → (r : RunsAsLogged z s) → IsPrefix log (part 0 r.acts) → IsFreedFrom t n log
-    → IsGone (after (opening z) r.run.events) (without_logs s) t n
+    → specs.IsGone (after (opening z) r.run.events) (without_logs s) t n
 gone_by z s log t n r known f =
     let run = r.run in
     let g = after (opening z) run.events in
@@ -182,7 +184,7 @@ gone_by z s log t n r known f =
     let freed : Freed a.m g t n = since_freed z.cpus f.before a.m f.item a.more a.es g t n a.run a.on a.known f.detached f.freed in
     gone_of a.m g run.seat (without_logs s) t n run.good run.shows (histories a.m ((0, f.item) ∷ a.more) a.es g a.run a.on) freed
 
-pub freed_is_gone : FreedIsGone
+pub freed_is_gone : specs.FreedIsGone
 freed_is_gone z s i l t n r at f = let run = running_headline z s r in record { run = run; gone = gone_by z s l.known_log t n run (run.known i l at).0 f }
 
 -- the keeper has the first seat, and its log is all that it did
@@ -190,7 +192,7 @@ pub keeper_did : (z : Settings) (s : Table ℕ Logged) (i : ℕ) (l : Logged) (k
 keeper_did z s i l k r at is =
     r.logs i l at (subst IsStanding (sym is) tt) ∙ ap (λ (j : ℕ). part j r.acts) (subst (Sits r.run.seat i) is (r.run.shows.fits i l.view (at_map (λ (d : Logged). d.view) s.views i l at)).0)
 
-pub freed_by_keeper : FreedByKeeper
+pub freed_by_keeper : specs.FreedByKeeper
 freed_by_keeper z s i l k t n r at is f =
     let run = running_headline z s r in
     record { run = run; gone = gone_by z s l.log t n run ([], append-nil l.log ∙ keeper_did z s i l k run at is) f }
@@ -231,7 +233,7 @@ published_number s e f o t on (inr (u, same)) is by =
     (made_numbers s o.state (Republish t u) o.reply on (made s (Republish t u) o replace), keeps_on t s (Republish t u) o on replace)
 
 kept_since : (cpus : ℕ) (log : List LogItem) (m : State) (more : List (ℕ × LogItem)) (es : List Event) (g : State) (t n d : ℕ) (f : Event) → IsPublishing t f
-    → Follows m ((0, log_item f Done) ∷ more) es g → Holds m → Known cpus log m → n ≡ suc (changes_in log) → keeping t log ≡ Some d → occupant_of g t ≡ Some n → KeepsDriver g t d
+    → Follows m ((0, log_item f Done) ∷ more) es g → Holds m → Known cpus log m → n ≡ suc (changes_in log) → keeping t log ≡ Some d → occupant_of g t ≡ Some n → specs.KeepsDriver g t d
 kept_since cpus log m more [] g t n d f publishing run on known number keeps is = absurd run
 kept_since cpus log m more (e ∷ es) g t n d f publishing run on known number keeps is =
     let o = run.0 in
@@ -249,18 +251,18 @@ kept_since cpus log m more (e ∷ es) g t n d f publishing run on known number k
       stands = ap (λ (q : State). occupant_of q stands.0) leads ∙ long.1;
     }
 
-keeps_long : (z : Settings) (s : Table ℕ Logged) (i : ℕ) (l : Logged) (t n d : ℕ) → RunsAsLogged z s → get_elem? s.views i ≡ some l → IsAttachedKeeping t n d l.known_log → KeepsAsLong z s t n d
+keeps_long : (z : Settings) (s : Table ℕ Logged) (i : ℕ) (l : Logged) (t n d : ℕ) → RunsAsLogged z s → get_elem? s.views i ≡ some l → IsAttachedKeeping t n d l.known_log → specs.KeepsAsLong z s t n d
 keeps_long z s i l t n d r at f =
     let a = at_item z s l.known_log f.before f.after (log_item f.event Done) r (r.known i l at).0 f.are in
     record { run = r; keeps = λ is. kept_since z.cpus f.before a.m a.more a.es (after (opening z) r.run.events) t n d f.event f.publishing a.run a.on a.known f.number f.keeps is }
 
-pub attached_keeps : AttachedKeeps
+pub attached_keeps : specs.AttachedKeeps
 attached_keeps z s i l t n d r at f = keeps_long z s i l t n d (running_headline z s r) at f
 
 -- The end of a run: what follows for the last words, from the laws of any table under the rule.
 
 -- a live word is honest, so it isn't the number of an entry without a slot
-gone_from : (z : Settings) (g : State) (k : KeeperView) (last : List ℕ) (s : Table ℕ View) (t n : ℕ) → Agrees z last g → KeeperShown g k → IsGone g s t n → IsGoneFrom z g last n
+gone_from : (z : Settings) (g : State) (k : KeeperView) (last : List ℕ) (s : Table ℕ View) (t n : ℕ) → Agrees z last g → KeeperShown g k → specs.IsGone g s t n → specs.IsGoneFrom z g last n
 gone_from z g k last s t n words shown gone = record {
   slotless = gone.slotless;
   unheld = gone.unheld;
@@ -272,7 +274,7 @@ gone_from z g k last s t n words shown gone = record {
 }
 
 -- by the keeper's own seat, which is the first
-ends_run : (z : Settings) (s : Table ℕ Logged) (r : RunsAsLogged z s) (k : KeeperView) → get_elem? (without_logs s).views 0 ≡ some (Keeper k) → EndsRun z k (part 0 r.acts) s.words
+ends_run : (z : Settings) (s : Table ℕ Logged) (r : RunsAsLogged z s) (k : KeeperView) → get_elem? (without_logs s).views 0 ≡ some (Keeper k) → specs.EndsRun z k (part 0 r.acts) s.words
 ends_run z s r k at =
     let run = r.run in
     let g : State = after (opening z) run.events in
@@ -301,7 +303,7 @@ seen_by g x k cpu keeper =
     let pass : x.pass ≡ take (seen_at g x.id) g.history = ap (λ (v : CpuView). v.pass) cpu.is in
     subst (IsPrefix x.pass) (sym history) (subst (λ (h : List Change). IsPrefix h g.history) (sym pass) (taken_is_prefix (seen_at g x.id) g.history))
 
-ends_run_for : (z : Settings) (x : CpuView) (s : Table ℕ Logged) (i : ℕ) (l : Logged) → (r : RunsAsLogged z s) → get_elem? s.views i ≡ some l → l.view ≡ Cpu x → EndsRunFor z x l.log l.known_log s.words
+ends_run_for : (z : Settings) (x : CpuView) (s : Table ℕ Logged) (i : ℕ) (l : Logged) → (r : RunsAsLogged z s) → get_elem? s.views i ≡ some l → l.view ≡ Cpu x → specs.EndsRunFor z x l.log l.known_log s.words
 unfolding ends_run
 ends_run_for z x s i l r at is =
     let run = r.run in
@@ -320,17 +322,17 @@ ends_run_for z x s i l r at is =
       seen = seen_by g x k.0 shown (run.shows.fits 0 (Keeper k.0) k.1).1;
     }
 
-pub ended_runs : EndedRuns
+pub ended_runs : specs.EndedRuns
 ended_runs z x log known_log last end =
     let run = ends_run_for z x end.table end.place end.seat (running_headline z end.table end.ruled) end.at end.view in
-    subst (λ (l : List ℕ). EndsRunFor z x log known_log l) end.words
-    (subst (λ (d : List LogItem). EndsRunFor z x log d end.table.words) end.knows (subst (λ (d : List LogItem). EndsRunFor z x d end.seat.known_log end.table.words) end.did run))
+    subst (λ (l : List ℕ). specs.EndsRunFor z x log known_log l) end.words
+    (subst (λ (d : List LogItem). specs.EndsRunFor z x log d end.table.words) end.knows (subst (λ (d : List LogItem). specs.EndsRunFor z x d end.seat.known_log end.table.words) end.did run))
 
 -- the same of a run that the keeper's seat ended, with the CPUs' seats that it took over
 
 -- a CPU's seat, by its place
 whole_in : (z : Settings) (s : Table ℕ Logged) (r : RunsAsLogged z s) (k : KeeperView) (first : get_elem? (without_logs s).views 0 ≡ some (Keeper k)) (i : ℕ) (l : Logged) (x : CpuView)
-    → get_elem? s.views i ≡ some l → l.view ≡ Cpu x → IsWholeIn (ends_run z s r k first) x l.log l.known_log
+    → get_elem? s.views i ≡ some l → l.view ≡ Cpu x → specs.IsWholeIn (ends_run z s r k first) x l.log l.known_log
 unfolding ends_run
 whole_in z s r k first i l x at is =
     let run = r.run in
@@ -343,50 +345,50 @@ whole_in z s r k first i l x at is =
       shown = shown;
       known = (r.known i l at).0;
       seen = seen_by (after (opening z) run.events) x k shown (run.shows.fits 0 (Keeper k) first).1;
-      references = λ n. subst (λ (d : List LogItem). passive_by n d ≡ references_to n x.references) own (has_references z s r x shown n);
+      references = λ n. subst (λ (d : List LogItem). Held.passive_by n d ≡ references_to n x.references) own (has_references z s r x shown n);
     }
 
 whole_in_as : (z : Settings) (s : Table ℕ Logged) (r : RunsAsLogged z s) (k : KeeperView) (first : get_elem? (without_logs s).views 0 ≡ some (Keeper k)) (e : EndedSeat) (x : CpuView)
-    (did known_log : List LogItem) → IsStillThere s.views e → e ≡ cpu_end x did known_log → IsWholeIn (ends_run z s r k first) x did known_log
+    (did known_log : List LogItem) → IsStillThere s.views e → e ≡ specs.cpu_end x did known_log → specs.IsWholeIn (ends_run z s r k first) x did known_log
 whole_in_as z s r k first e x did known_log there is =
-    let same : end_of there.seat ≡ cpu_end x did known_log = there.is ∙ is in
+    let same : end_of there.seat ≡ specs.cpu_end x did known_log = there.is ∙ is in
     let whole = whole_in z s r k first there.place there.seat x there.at (ap (λ (d : EndedSeat). d.view) same) in
-    subst (λ (p : List LogItem × List LogItem). IsWholeIn (ends_run z s r k first) x p.0 p.1) (λ n. (ap (λ (d : EndedSeat). d.log) same n, ap (λ (d : EndedSeat). d.known_log) same n)) whole
+    subst (λ (p : List LogItem × List LogItem). specs.IsWholeIn (ends_run z s r k first) x p.0 p.1) (λ n. (ap (λ (d : EndedSeat). d.log) same n, ap (λ (d : EndedSeat). d.known_log) same n)) whole
 
 -- its list frees no entry that a CPU holds
 held_in : (z : Settings) (s : Table ℕ Logged) (r : RunsAsLogged z s) (k : KeeperView) (first : get_elem? (without_logs s).views 0 ≡ some (Keeper k))
-    → FreesNoneHeld (ends_run z s r k first).seat (after (opening z) (ends_run z s r k first).events).seated (ends_run z s r k first).acts
+    → Held.FreesNoneHeld (ends_run z s r k first).seat (after (opening z) (ends_run z s r k first).events).seated (ends_run z s r k first).acts
 unfolding ends_run
 held_in z s r k first = frees_none_held z s r
 
 -- nor one that there is a local reference to
 locals_in : (z : Settings) (s : Table ℕ Logged) (r : RunsAsLogged z s) (k : KeeperView) (first : get_elem? (without_logs s).views 0 ≡ some (Keeper k))
-    → FreesNoLocals (ends_run z s r k first).seat (after (opening z) (ends_run z s r k first).events).seated (ends_run z s r k first).acts
+    → Held.FreesNoLocals (ends_run z s r k first).seat (after (opening z) (ends_run z s r k first).events).seated (ends_run z s r k first).acts
 unfolding ends_run
 locals_in z s r k first = frees_no_locals z s r
 
 exact_in : (z : Settings) (s : Table ℕ Logged) (r : RunsAsLogged z s) (k : KeeperView) (first : get_elem? (without_logs s).views 0 ≡ some (Keeper k))
-    → CountExactly z (ends_run z s r k first).events (ends_run z s r k first).seat (ends_run z s r k first).acts
+    → Held.CountExactly z (ends_run z s r k first).events (ends_run z s r k first).seat (ends_run z s r k first).acts
 unfolding ends_run
 exact_in z s r k first = counts_exactly z s r
 
-ends_for_all : (z : Settings) (s : Table ℕ Logged) (ruled : LoggedRuled z s) (k : KeeperView) (i : ℕ) (l : Logged) → get_elem? s.views i ≡ some l → l.view ≡ Keeper k → EndsRunForAll z k l.log l.ends s.words
+ends_for_all : (z : Settings) (s : Table ℕ Logged) (ruled : LoggedRuled z s) (k : KeeperView) (i : ℕ) (l : Logged) → get_elem? s.views i ≡ some l → l.view ≡ Keeper k → specs.EndsRunForAll z k l.log l.ends s.words
 ends_for_all z s ruled k i l at is =
     let r = running_headline z s ruled in
     let seen : get_elem? (without_logs s).views i ≡ some (Keeper k) = at_map (λ (d : Logged). d.view) s.views i l at ∙ ap some is in
     let zero_is : i ≡ 0 = (r.run.shows.fits i (Keeper k) seen).0 in
     let first : get_elem? (without_logs s).views 0 ≡ some (Keeper k) = ap (get_elem? (without_logs s).views) (sym zero_is) ∙ seen in
     let log : part 0 r.acts ≡ l.log = ap (λ (j : ℕ). part j r.acts) (sym zero_is) ∙ sym (r.logs i l at (subst IsStanding (sym is) tt)) in
-    subst (λ (d : List LogItem). EndsRunForAll z k d l.ends s.words) log (record {
+    subst (λ (d : List LogItem). specs.EndsRunForAll z k d l.ends s.words) log (record {
       run = ends_run z s r k first;
-      each = λ n x did known_log taken. whole_in_as z s r k first (cpu_end x did known_log) x did known_log (ruled.ends i l at n (cpu_end x did known_log) taken) refl;
+      each = λ n x did known_log taken. whole_in_as z s r k first (specs.cpu_end x did known_log) x did known_log (ruled.ends i l at n (specs.cpu_end x did known_log) taken) refl;
       held = held_in z s r k first;
       locals = locals_in z s r k first;
       exact = exact_in z s r k first;
     })
 
-pub ended_runs_for_all : EndedRunsForAll
+pub ended_runs_for_all : specs.EndedRunsForAll
 ended_runs_for_all z k log ends last end =
     let all = ends_for_all z end.table end.ruled k end.place end.seat end.at end.view in
-    subst (λ (l : List ℕ). EndsRunForAll z k log ends l) end.words
-    (subst (λ (p : List LogItem × List EndedSeat). EndsRunForAll z k p.0 p.1 end.table.words) (λ n. (end.did n, end.took n)) all)
+    subst (λ (l : List ℕ). specs.EndsRunForAll z k log ends l) end.words
+    (subst (λ (p : List LogItem × List EndedSeat). specs.EndsRunForAll z k p.0 p.1 end.table.words) (λ n. (end.did n, end.took n)) all)

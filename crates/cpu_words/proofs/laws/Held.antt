@@ -19,12 +19,13 @@ use Rattle.protocol.proofs.runs.Reuse.{destroyed_drained}
 use Rattle.protocol.proofs.Occupied.{attached_in, slot_found, slot_has}
 use Rattle.protocol.proofs.Cells.{get_or_all}
 use Rattle.protocol.proofs.model.Refining.{opening_pictured}
+use Rattle.protocol.proofs.model.RefiningReferences.{passives_of}
 use Rattle.cpu_words.specs.Common.{LogItem, Logged, RunsAsLogged, AreByOwn, IsSeatOf, maker, the_cpu, by_number, part, without_logs, HasNone, CountExactly, Finds, FreesNoLocals, FreesNoneHeld, HasFoundInside, is_exit, no_entry, occupant, occupant_of, passive_by, references_to, reply_without_id, Cpu, CpuShown, CpuView, View, cpu_of}
 use Rattle.cpu_words.proofs.logs.Loads.{run_as_logged, is_whole, same_event, place, part_same, part_off}
 use Rattle.cpu_words.proofs.logs.Known.{Known, known_stays, known_first}
 use Rattle.cpu_words.proofs.logs.Runs.{Follows, follows_after, follows_holds, cut, walked}
 use Rattle.cpu_words.proofs.laws.Fresh.{own_last}
-use Rattle.cpu_words.proofs.laws.Passing.{counted_along, passives, tried_in}
+use Rattle.cpu_words.proofs.laws.Passing.{counted_along, tried_in}
 use Rattle.cpu_words.proofs.laws.Counting.{counted_together, unheld_has_none}
 use Rattle.cpu_words.proofs.laws.Waiting.{own_first}
 use Rattle.cpu_words.proofs.shown.Seeing.{attached_prefix, tries}
@@ -198,7 +199,7 @@ unheld_at cpus log m freed more (x ∷ es) g t n run on known of has =
 
 -- a CPU's log counts its passive references
 counts_by : (seat : ℕ → ℕ) (cpus : ℕ) (z : Settings) (c n : ℕ) (acts : List (ℕ × LogItem)) (es : List Event) (t : State) → Follows (opening z) acts es t → IsTrue (are_fit z) → AreByOwn seat cpus acts
-    → ((d : ℕ) → d < cpus → seat c ≡ seat d → d ≡ c) → passive_by n (part (seat c) acts) ≡ passives t c n
+    → ((d : ℕ) → d < cpus → seat c ≡ seat d → d ≡ c) → passive_by n (part (seat c) acts) ≡ passives_of t c n
 counts_by seat cpus z c n acts es t run fit own only = counted_along seat cpus c n None 0 (opening z) acts es t run (opening_holds z fit) own only
     (sym (ap tried_in (get_or_all z.cpus Empty c)))
     (sym (ap (λ (m : Model). m.passive c n) (opening_pictured z)))
@@ -253,7 +254,7 @@ frees_none_held z s r c below first rest freed t n are of has holds =
     let held = held_inside seat cpus c n (opening z) first k.events k.at k.run (opening_holds z fit) k.own (one_cpu z s r c below) inside in
     k.unheld.sections c held.held.begin held.entry held.held.open_since held.held.may held.number)
     (λ (some_one : 0 < passive_by n (part (seat c) first)).
-    let none : passives k.at c n ≡ 0 = k.unheld.passive c in
+    let none : passives_of k.at c n ≡ 0 = k.unheld.passive c in
     let counted = counts_by seat cpus z c n first k.events k.at k.run fit k.own (one_cpu z s r c below) in
     omega (arith, none, counted, some_one))
     holds

@@ -1,8 +1,8 @@
--- What a CPU's log says of its passive references: what it is trying is in the core's hand, and it has just as many references to each entry as are counted.
+-- What a CPU's log says of its passive references: what it is trying is in the core's hand, and it
+-- has exactly as many references to each entry as are counted.
 use Rattle.std.proofs.Common.{◌≡◌, ◌≢◌, ◌⊎◌, inl, inr, ⊎_elim, ℕ, suc, ◌+◌, ◌-◌, ◌==◌, ◌<◌, Bool, true, false, cond, List, [], ◌∷◌, length, set, get_or, get_or-set_same, get_or-set_other, Option, Some, None, eq-eqb, ne_eqb, refl, sym, ap, ◌∙◌, subst, arith}
 use Rattle.std.proofs.lemmas.Bool.{and_parts, cases_eq, eqb-true}
-use Rattle.std.proofs.lemmas.Option.{none-some, same_Some}
-use Rattle.cpu_words.specs.Types.{Entry, Event, PassiveAdd, PassiveSub, Try, Confirm, TakeBack, Reply, Slot, Vacant, Live, Retired, Hand, Empty, Taking, Giving, Back, Trying}
+use Rattle.cpu_words.specs.Types.{Entry, Event, PassiveAdd, PassiveSub, Try, Confirm, TakeBack, Reply, Slot, Live, Retired, Hand, Empty, Taking, Giving, Back, Trying}
 use Rattle.registry_values.specs.Common.{slot_at, slot_of}
 use Rattle.protocol.specs.Common.{State, hand_at, passive_at, trying_at, trying_of, is_idle, put, Holds, Outcome, step, state_after, number_in, passive_in, after_event, occupant_of}
 use Rattle.protocol.proofs.Made.{Made, AddsPassive, SubsPassive, Tries, ConfirmsTry, TakesBack, Counts, Splits, Joins, CountsDown, FindsCollected, SplitsBack, made}
@@ -12,10 +12,10 @@ use Rattle.protocol.proofs.keeps.Keeping.{step_holds}
 use Rattle.protocol.proofs.keeps.Marking.{shifted_back, shifted_try, trying_stays}
 use Rattle.protocol.proofs.keeps.SectionKeeps.{idle_tells}
 use Rattle.protocol.proofs.model.RefiningEntries.{At, own_slot, passive_moved}
-use Rattle.protocol.proofs.model.RefiningReferences.{confirmed, passive_put}
+use Rattle.protocol.proofs.model.RefiningReferences.{confirmed, passive_put, passives_of}
 use Rattle.protocol.proofs.model.RefiningSections.{put_twice, unwritten}
-use Rattle.protocol.proofs.runs.Headline.{obeys_laws}
-use Rattle.protocol.proofs.runs.Reuse.{number_is}
+use Rattle.protocol.proofs.runs.Headline.{obeys_laws, vacant_number}
+use Rattle.protocol.proofs.runs.Reuse.{number_is, goes_or_stays}
 use Rattle.cpu_words.specs.Common.{LogItem, by_number, maker, the_cpu, names, IsSeatOf, AreByOwn, part, passive_after, passive_from, tried_after}
 use Rattle.cpu_words.proofs.logs.Loads.{part_same, part_off}
 use Rattle.cpu_words.proofs.logs.Runs.{Follows}
@@ -31,9 +31,6 @@ tried_in (Trying t n) = Some n
 
 abbrev pub tried_of : State → ℕ → Option ℕ
 tried_of s c = tried_in (hand_at s c)
-
-abbrev pub passives : State → ℕ → ℕ → ℕ
-passives s c n = passive_in s.passive s.hands c (slot_of s.slots n)
 
 -- One event: what the CPU c tries after it, and how many references to n it has, where it had k
 
@@ -108,18 +105,18 @@ counts_on : (s n : State) (e : Event) (r : Reply) (c m : ℕ) → Holds s → Ma
 counts_on s _ _ _ c m on (AddsPassive d j u at may) =
     let p = idle_tells s d on (and_parts (is_idle s d) _ may).0 in
     let untried : trying_at s.hands d u ≡ 0 = ap (trying_of u) p.1 in
-    let was : passives s d j ≡ passive_at s.passive d u = ap (passive_in s.passive s.hands d) at ∙ omega (arith, untried) in
-    sym (passive_put s d j u (passive_at s.passive d u + 1) on p.0 at untried c m) ∙ put_shows (passives s) (λ k. suc k) d j (passive_at s.passive d u + 1) (omega (arith, was)) c m
+    let was : passives_of s d j ≡ passive_at s.passive d u = ap (passive_in s.passive s.hands d) at ∙ omega (arith, untried) in
+    sym (passive_put s d j u (passive_at s.passive d u + 1) on p.0 at untried c m) ∙ put_shows (passives_of s) (λ k. suc k) d j (passive_at s.passive d u + 1) (omega (arith, was)) c m
 counts_on s _ _ _ c m on (SubsPassive d j u at may) =
     let p = idle_tells s d on (and_parts (is_idle s d) _ may).0 in
     let untried : trying_at s.hands d u ≡ 0 = ap (trying_of u) p.1 in
-    let was : passives s d j ≡ passive_at s.passive d u = ap (passive_in s.passive s.hands d) at ∙ omega (arith, untried) in
-    sym (passive_put s d j u (passive_at s.passive d u - 1) on p.0 at untried c m) ∙ put_shows (passives s) (λ k. k - 1) d j (passive_at s.passive d u - 1) (omega (arith, was)) c m
+    let was : passives_of s d j ≡ passive_at s.passive d u = ap (passive_in s.passive s.hands d) at ∙ omega (arith, untried) in
+    sym (passive_put s d j u (passive_at s.passive d u - 1) on p.0 at untried c m) ∙ put_shows (passives_of s) (λ k. k - 1) d j (passive_at s.passive d u - 1) (omega (arith, was)) c m
 counts_on s _ _ _ c m on (ConfirmsTry d u j hand may) =
     let live = live_tells j (slot_at s.slots u) (confirm_tells s d j (slot_at s.slots u) may).1 in
     let at : slot_of s.slots j ≡ Some u = ap (slot_of s.slots) (sym live.1) ∙ slot_number s.history s.slots live.0 u on.slots (inl live.2) in
-    let k : ℕ = passives s c m in
-    sym (confirmed s d u j on hand at c m) ∙ (put_shows (passives s) (λ i. suc i) d j (passives s d j + 1) (omega arith) c m
+    let k : ℕ = passives_of s c m in
+    sym (confirmed s d u j on hand at c m) ∙ (put_shows (passives_of s) (λ i. suc i) d j (passives_of s d j + 1) (omega arith) c m
     ∙ cond_as (d == c) (cond (j == m) (suc k) k) (cond (names (tried_of s c) m) (suc k) k) k
     (λ same. ap (λ (x : Option ℕ). cond (names x m) (suc k) k) (sym (ap (tried_of s) (sym (eqb-true d c same)) ∙ ap tried_in hand))))
 counts_on s _ _ _ c m on (Tries d u j may) =
@@ -142,16 +139,7 @@ counts_on s _ _ _ c m on _ = refl
 
 -- an entry comes into a slot without references, and goes from one
 
-is_some : (o : Option ℕ) (n : ℕ) → (o ≡ Some n) ⊎ (o ≡ Some n → ⊥)
-is_some None n = inr (λ same. none-some n same)
-is_some (Some m) n = ⊎_elim (λ (same : m ≡ n). inl (ap (λ (k : ℕ). Some k) same)) (λ (off : m ≢ n). inr (λ same. off (same_Some m n same))) (cases_eq m n)
-
-no_entry : (x : Slot) → number_in x ≡ None → x ≡ Vacant
-no_entry Vacant is = refl
-no_entry (Live e) is = absurd (none-some e.number (sym is))
-no_entry (Retired e) is = absurd (none-some e.number (sym is))
-
-slots_on : (s : State) (e : Event) (o : Outcome) (c m : ℕ) → Holds s → step s e ≡ Some o → passive_in s.passive s.hands c (slot_of o.state.slots m) ≡ passives s c m
+slots_on : (s : State) (e : Event) (o : Outcome) (c m : ℕ) → Holds s → step s e ≡ Some o → passive_in s.passive s.hands c (slot_of o.state.slots m) ≡ passives_of s c m
 slots_on s e o c m on is =
     let after_it : after_event s e ≡ o.state = ap (state_after s) is in
     let later : Holds o.state = step_holds s o.state e o.reply on is in
@@ -162,13 +150,13 @@ slots_on s e o c m on is =
     (λ (gone : occupant_of o.state u ≡ Some m → ⊥).
     let goes = (obeys_laws s on).reuse.goes e u m (has_number m (slot_at s.slots u) at) (λ still. gone (subst (λ (q : State). occupant_of q u ≡ Some m) after_it still)) in
     inr (sym (ap (passive_in s.passive s.hands c) (own_slot s.history s.slots m u on.slots at)) ∙ goes.2.passive c))
-    (is_some (occupant_of o.state u) m))
+    (goes_or_stays (occupant_of o.state u) m))
     (λ u at. ⊎_elim {C = At s.slots m u ⊎ none u}
     (λ (here : occupant_of s u ≡ Some m). inl (number_is (slot_at s.slots u) m here))
     (λ (off : occupant_of s u ≡ Some m → ⊥).
     let comes = (obeys_laws s on).reuse.comes e u m off (subst (λ (q : State). occupant_of q u ≡ Some m) (sym after_it) (has_number m (slot_at o.state.slots u) at)) in
-    inr (omega (arith, on.passive.vacant c u (no_entry (slot_at s.slots u) comes.1))))
-    (is_some (occupant_of s u) m)))
+    inr (omega (arith, on.passive.vacant c u (vacant_number (slot_at s.slots u) comes.1))))
+    (goes_or_stays (occupant_of s u) m)))
   where
     has_number : (m : ℕ) (x : Slot) → (f : Entry) × (◌⊎◌ (x ≡ Live f) (x ≡ Retired f)) × (f.number ≡ m) → number_in x ≡ Some m
     has_number m x at = ⊎_elim
@@ -176,7 +164,7 @@ slots_on s e o c m on is =
         (λ (gone : x ≡ Retired at.0). ap number_in gone ∙ ap (λ (k : ℕ). Some k) at.2)
         at.1
 
-passives_next : (s : State) (e : Event) (o : Outcome) (c n : ℕ) → Holds s → step s e ≡ Some o → passives o.state c n ≡ next c n (tried_of s c) e (passives s c n)
+passives_next : (s : State) (e : Event) (o : Outcome) (c n : ℕ) → Holds s → step s e ≡ Some o → passives_of o.state c n ≡ next c n (tried_of s c) e (passives_of s c n)
 passives_next s e o c n on is = counts_on s o.state e o.reply c n on (made s e o is) ∙ ap (next c n (tried_of s c) e) (slots_on s e o c n on is)
 
 tried_next : (s : State) (e : Event) (o : Outcome) (c : ℕ) → Holds s → step s e ≡ Some o → tried_of o.state c ≡ try_next c e (tried_of s c)
@@ -210,8 +198,8 @@ other_try s e c x off = refl
 
 -- by the CPU's log so many references are counted at the end
 pub counted_along : (seat : ℕ → ℕ) (cpus c n : ℕ) (x : Option ℕ) (k : ℕ) (s : State) (acts : List (ℕ × LogItem)) (es : List Event) (t : State) → Follows s acts es t → Holds s → AreByOwn seat cpus acts
-    → ((d : ℕ) → d < cpus → seat c ≡ seat d → d ≡ c) → x ≡ tried_of s c → k ≡ passives s c n → passive_from n x k (part (seat c) acts) ≡ passives t c n
-counted_along seat cpus c n x k s [] [] t is on own only tried had = had ∙ ap (λ (g : State). passives g c n) (sym is)
+    → ((d : ℕ) → d < cpus → seat c ≡ seat d → d ≡ c) → x ≡ tried_of s c → k ≡ passives_of s c n → passive_from n x k (part (seat c) acts) ≡ passives_of t c n
+counted_along seat cpus c n x k s [] [] t is on own only tried had = had ∙ ap (λ (g : State). passives_of g c n) (sym is)
 counted_along seat cpus c n x k s [] (e ∷ es) t run on own only tried had = absurd run
 counted_along seat cpus c n x k s (a ∷ more) [] t run on own only tried had = absurd run
 counted_along seat cpus c n x k s (a ∷ more) (e ∷ es) t run on own only tried had =
@@ -219,7 +207,7 @@ counted_along seat cpus c n x k s (a ∷ more) (e ∷ es) t run on own only trie
     let i = seat c in
     let event : a.1.event ≡ by_number s e = ap (λ (d : LogItem). d.event) run.2 in
     let holds : Holds o.state = step_holds s o.state e o.reply on run.1 in
-    let then : passives o.state c n ≡ next c n x e k = passives_next s e o c n on run.1 ∙ (λ j. next c n (sym tried j) e (sym had j)) in
+    let then : passives_of o.state c n ≡ next c n x e k = passives_next s e o c n on run.1 ∙ (λ j. next c n (sym tried j) e (sym had j)) in
     let tries : tried_of o.state c ≡ try_next c e x = tried_next s e o c on run.1 ∙ ap (try_next c e) (sym tried) in
     ⊎_elim
     (λ (same : a.0 ≡ i).

@@ -13,13 +13,14 @@ use Rattle.protocol.proofs.model.Refining.{every_run_is_model_run}
 use Rattle.protocol.proofs.counts.Sums.{number_of, no_standing, one_self, none_in_hand}
 use Rattle.protocol.proofs.Occupied.{in_within}
 use Rattle.protocol.proofs.model.RefiningEntries.{unheld_when_drained}
-use Rattle.cpu_words.specs.Common.{LogItem, View, without_logs, untold, AreByOwn, AreToldBefore, Agrees, ShowsViews, Good, Ruled, RunsLawfully, RunningHeadline, InHand, Empty, Taking, Giving, Back, Trying, CpuView, Keeper, Cpu, Reference, Note, Spent, SameHand, references_to, CpuShown, Shown, SectionMayHold, IsInHand, SeatHolds, HeldHaveSlots, passive_of, count_of, KeeperShown, MarkTells, DrainedIsFree, MarksAreHonest, FoundIsHeld}
+use Rattle.cpu_words.specs.Common.{LogItem, View, without_logs, untold, AreByOwn, AreToldBefore, Agrees, ShowsViews, Good, Ruled, InHand, Empty, Taking, Giving, Back, Trying, CpuView, Keeper, Cpu, Reference, Note, Spent, SameHand, references_to, CpuShown, Shown, passive_of, count_of, KeeperShown}
+use Rattle.cpu_words.specs.Headline
 use Rattle.cpu_words.proofs.shown.Showing.{IsBacked, backed}
 use Rattle.cpu_words.proofs.shown.Seeing.{seen_of, Seen, tries, occupies, its_slot}
 use Rattle.cpu_words.proofs.by_keeper.KeeperSteps.{SeenByKeeper, seen_by_keeper}
 use Rattle.cpu_words.proofs.by_keeper.Vacating.{Drained, drained_of}
 
-pub runs_lawfully : (z : Settings) (s : Table ℕ View) → Ruled z s → RunsLawfully z s
+pub runs_lawfully : (z : Settings) (s : Table ℕ View) → Ruled z s → Headline.RunsLawfully z s
 runs_lawfully z s r =
     let run = r.reached.run in
     let fit : IsTrue (are_fit z) = subst (λ (a : Settings). IsTrue (are_fit a)) r.settings r.good.holds.fit in record {
@@ -33,7 +34,7 @@ runs_lawfully z s r =
       laws = obeys_laws _ (every_run_keeps z r.reached.events fit);
     }
 
-pub running_headline : RunningHeadline
+pub running_headline : Headline.RunningHeadline
 unfolding runs_lawfully
 running_headline z s r = record {
   run = runs_lawfully z (without_logs s) r.run;
@@ -53,7 +54,7 @@ running_headline z s r = record {
 -- Hands
 
 -- what is in the view's hand is in the core's
-pub same_number : (h : Hand) (k : InHand) (n : ℕ) → SameHand h k → IsInHand n k → number_of h ≡ Some n
+pub same_number : (h : Hand) (k : InHand) (n : ℕ) → SameHand h k → Headline.IsInHand n k → number_of h ≡ Some n
 same_number EmptyHand Empty n same is = absurd is
 same_number (TakingHand m) Empty n same is = absurd is
 same_number (TakingHand m) (Taking e) n same is = ap (λ (x : ℕ). Some x) (same ∙ is)
@@ -75,53 +76,53 @@ hand_occupies slots locals c (TryingHand t m) n holds is = absurd (none-some n i
 -- Seats
 
 -- a CPU's references, and those of a seat of one
-cpu_has : (g : State) (e : Entry) (x : CpuView) → Good g → CpuShown g x → (0 < references_to e.number x.references) ⊎ IsInHand e.number x.hand → Occupies g.slots e.number
+cpu_has : (g : State) (e : Entry) (x : CpuView) → Good g → CpuShown g x → (0 < references_to e.number x.references) ⊎ Headline.IsInHand e.number x.hand → Occupies g.slots e.number
 cpu_has g e x good shown holds = ⊎_elim
     (λ (some : 0 < references_to e.number x.references). occupies g.slots e.number (λ off. omega (arith, some, shown.gone e.number off)))
-    (λ (is : IsInHand e.number x.hand). hand_occupies g.slots g.locals x.id (hand_at g x.id) e.number (good.holds.references.in_hands x.id)
+    (λ (is : Headline.IsInHand e.number x.hand). hand_occupies g.slots g.locals x.id (hand_at g x.id) e.number (good.holds.references.in_hands x.id)
     (same_number (hand_at g x.id) x.hand e.number shown.hand is))
     holds
 
-pub seat_has_slot : (g : State) (e : Entry) (v : View) → Good g → Shown g v → IsBacked g v → IsAttached g.history e → SeatHolds g.history e v → IsIn e (slot_at g.slots e.slot)
+pub seat_has_slot : (g : State) (e : Entry) (v : View) → Good g → Shown g v → IsBacked g v → IsAttached g.history e → Headline.SeatHolds g.history e v → IsIn e (slot_at g.slots e.slot)
 seat_has_slot g e (Keeper k) good shown has attached holds =
     let kept = good.holds.kept_drivers.drivers holds.0 e.number (sym (ap (λ (l : List (Option ℕ)). kept_at l holds.0) (seen_by_keeper g k good shown).keeps) ∙ holds.1) in
     its_slot g e good attached (kept.0, kept.1, kept.2, kept.3)
 seat_has_slot g e (Cpu x) good shown has attached holds = ⊎_elim
-    (λ (m : SectionMayHold g.history e x). good.holds.held x.id m.0 e (sym (seen_of g x good shown).begin ∙ m.1) m.2)
-    (λ (rest : (0 < references_to e.number x.references) ⊎ IsInHand e.number x.hand). its_slot g e good attached (cpu_has g e x good shown rest))
+    (λ (m : Headline.SectionMayHold g.history e x). good.holds.held x.id m.0 e (sym (seen_of g x good shown).begin ∙ m.1) m.2)
+    (λ (rest : (0 < references_to e.number x.references) ⊎ Headline.IsInHand e.number x.hand). its_slot g e good attached (cpu_has g e x good shown rest))
     holds
 seat_has_slot g e (Reference v) good shown has attached is = its_slot g e good attached (occupies g.slots e.number (λ off.
     omega (arith, has e.number, one_self v.entry.number e.number is, no_standing e.number g.locals (λ id stands. off (good.holds.references.standing id e.number stands)))))
 seat_has_slot g e (Note h) good shown has attached holds = absurd holds
 seat_has_slot g e Spent good shown has attached holds = absurd holds
 
-pub held_have_slots : HeldHaveSlots
+pub held_have_slots : Headline.HeldHaveSlots
 held_have_slots z s i j k v e r at there attached holds =
     let g = r.g in
     let seen : SeenByKeeper g k = seen_by_keeper g k r.good (r.shows.fits i (Keeper k) at).1 in
     let known : IsAttached g.history e = subst (λ (h : List Change). IsAttached h e) seen.history attached in
-    let held : SeatHolds g.history e v = subst (λ (h : List Change). SeatHolds h e v) seen.history holds in
+    let held : Headline.SeatHolds g.history e v = subst (λ (h : List Change). Headline.SeatHolds h e v) seen.history holds in
     subst (λ (l : List Slot). IsIn e (slot_at l e.slot)) (sym seen.slots) (seat_has_slot g e v r.good (r.shows.fits j v there).1 (backed g r.seat s.views j v r.shows there) known held)
 
 -- Honest marks: what the keeper's marks tell of the views of all seats, and what a last found entry tells.
 
 -- a view that is shown where nothing holds the entry of a drained slot
-holds_none : (g : State) (t : ℕ) (e : Entry) (v : View) → Good g → Drained g t e → IsUnheld (picture g) e.number → Shown g v → IsBacked g v → SeatHolds g.history e v → ⊥
+holds_none : (g : State) (t : ℕ) (e : Entry) (v : View) → Good g → Drained g t e → IsUnheld (picture g) e.number → Shown g v → IsBacked g v → Headline.SeatHolds g.history e v → ⊥
 holds_none g t e (Keeper k) good drained free shown has holds = free.keeps holds.0 (sym (ap (λ (l : List (Option ℕ)). kept_at l holds.0) (seen_by_keeper g k good shown).keeps) ∙ holds.1)
 holds_none g t e (Cpu x) good drained free shown has holds = ⊎_elim
-    (λ (m : SectionMayHold g.history e x). free.sections x.id m.0 e (sym (seen_of g x good shown).begin ∙ m.1) m.2 refl)
-    (λ (rest : (0 < references_to e.number x.references) ⊎ IsInHand e.number x.hand). ⊎_elim
+    (λ (m : Headline.SectionMayHold g.history e x). free.sections x.id m.0 e (sym (seen_of g x good shown).begin ∙ m.1) m.2 refl)
+    (λ (rest : (0 < references_to e.number x.references) ⊎ Headline.IsInHand e.number x.hand). ⊎_elim
     (λ (some : 0 < references_to e.number x.references). omega (arith, some, shown.passive t e (inr drained.retired), drained.passive x.id, tries g x t shown))
-    (λ (is : IsInHand e.number x.hand). none_in_hand e.number g.hands (omega (arith, free.locals)) x.id (same_number (hand_at g x.id) x.hand e.number shown.hand is))
+    (λ (is : Headline.IsInHand e.number x.hand). none_in_hand e.number g.hands (omega (arith, free.locals)) x.id (same_number (hand_at g x.id) x.hand e.number shown.hand is))
     rest)
     holds
 holds_none g t e (Reference v) good drained free shown has is = omega (arith, has e.number, one_self v.entry.number e.number is, free.locals)
 holds_none g t e (Note h) good drained free shown has holds = holds
 holds_none g t e Spent good drained free shown has holds = holds
 
-pub drained_is_free : DrainedIsFree
+pub drained_is_free : Headline.DrainedIsFree
 drained_is_free z s i t k r at drained =
-    let run : RunsLawfully z s = runs_lawfully z s r in
+    let run : Headline.RunsLawfully z s = runs_lawfully z s r in
     let g : State = after (opening z) run.events in
     let e = drained.retired.0 in
     let shown : KeeperShown g k = (run.shows.fits i (Keeper k) at).1 in
@@ -130,13 +131,13 @@ drained_is_free z s i t k r at drained =
     record {
       run = run;
       unheld = free;
-      seats = λ j v there. subst (λ (h : List Change). SeatHolds h e v → ⊥) (sym (seen_by_keeper g k run.good shown).history)
+      seats = λ j v there. subst (λ (h : List Change). Headline.SeatHolds h e v → ⊥) (sym (seen_by_keeper g k run.good shown).history)
           (holds_none g t e v run.good d free (run.shows.fits j v there).1 (backed g run.seat s.views j v run.shows there));
     }
 
 -- what the state has of a CPU's mark tells
 mark_tells : (z : Settings) (words : List ℕ) (g : State) (t : ℕ) (e : Entry) (x : CpuView) → Good g → Agrees z words g → CpuShown g x → slot_at g.slots t ≡ Retired e
-    → MarkTells z words g.history t e (mark_at g.marks t x.id) x
+    → Headline.MarkTells z words g.history t e (mark_at g.marks t x.id) x
 mark_tells z words g t e x good agrees shown retired =
     let seen : Seen g x = seen_of g x good shown in
     let slot : t < g.settings.slots = omega (arith, in_within g.slots t e (inr retired), good.holds.shape.slots) in
@@ -150,14 +151,14 @@ mark_tells z words g t e x good agrees shown retired =
           (good.holds.passive.collected x.id t e retired collected, agrees.at (count_of x.id t) (seen.lt, slot) ∙ good.holds.balance.emptied x.id t e retired collected);
     }
 
-pub marks_are_honest : MarksAreHonest
+pub marks_are_honest : Headline.MarksAreHonest
 marks_are_honest z s i j t k x e r at there retired =
     let g = r.g in
     let seen : SeenByKeeper g k = seen_by_keeper g k r.good (r.shows.fits i (Keeper k) at).1 in
     let told = mark_tells z s.words g t e x r.good r.words (r.shows.fits j (Cpu x) there).1 (sym (ap (λ (l : List Slot). slot_at l t) seen.slots) ∙ retired) in
-    subst (λ (p : List Change × List (List Mark)). MarkTells z s.words p.0 t e (mark_at p.1 t x.id) x) (λ q. (sym seen.history q, sym seen.marks q)) told
+    subst (λ (p : List Change × List (List Mark)). Headline.MarkTells z s.words p.0 t e (mark_at p.1 t x.id) x) (λ q. (sym seen.history q, sym seen.marks q)) told
 
-pub found_is_held : FoundIsHeld
+pub found_is_held : Headline.FoundIsHeld
 found_is_held z s i j k x e r at there is =
     let g = r.g in
     let own : Seen g x = seen_of g x r.good (r.shows.fits j (Cpu x) there).1 in

@@ -11,11 +11,11 @@ use Rattle.cpu_words.specs.Types.{Settings, Event, Exit}
 use Rattle.registry_values.specs.Common.{are_fit}
 use Rattle.protocol.specs.Common.{State, opening, section_at, begin_at, Holds, after, after_event, IsAllowed, HasExit, HasMoved}
 use Rattle.protocol.proofs.keeps.Keeping.{opening_holds}
-use Rattle.protocol.proofs.runs.Headline.{ends_by_exit}
+use Rattle.protocol.proofs.runs.Headline.{ends_by_exit, Same}
 use Rattle.cpu_words.specs.Common.{LogItem, Logged, Teller, Cpu, changes_in, has_taken, has_found, has_heard_from, HasHeardFrom, IsSeenOut, HasWaited, part, AreByOwn, RunsAsLogged, HasEndedOn, HasEndedSince, HadHeard, IsBeforeTelling, HaveEnded, WaitingEnds}
 use Rattle.cpu_words.proofs.shown.Seeing.{seen_of}
 use Rattle.cpu_words.proofs.laws.Safety.{running_headline}
-use Rattle.cpu_words.proofs.logs.Loads.{counted, run_as_logged, Same, Late, late_on, run_since, Placed, place, part_same, halve, starts_taken, starts_found}
+use Rattle.cpu_words.proofs.logs.Loads.{counted, run_as_logged, Late, late_on, run_since, Placed, place, part_same, halve, starts_taken, starts_found}
 use Rattle.cpu_words.proofs.logs.Runs.{Follows, after_append, follows_after, follows_holds, cut, part_append}
 use Rattle.cpu_words.proofs.logs.Slots.{changes_both}
 

@@ -13,13 +13,12 @@ use Rattle.protocol.proofs.keeps.References.{snapshot_due_tells}
 use Rattle.protocol.proofs.keeps.Replacing.{may_republish_tells}
 use Rattle.protocol.proofs.Either.{either}
 use Rattle.protocol.proofs.keeps.Linking.{within_live, within_retired}
-use Rattle.protocol.proofs.Cells.{by_cell, cell_cases, cell_here, cell_in_old, cell_other, get_or_all, place_put}
+use Rattle.protocol.proofs.Cells.{by_cell, cell_cases, cell_here, cell_in_old, cell_other, get_or_all, place_put, cell_put}
 use Rattle.protocol.proofs.Occupied.{is_retired_tells, slot_cases, slot_has}
 use Rattle.cpu_words.specs.Common.{LogItem, Teller, by_number, reply_without_id, changes_of, changes_in, occupant_after, occupant_from, occupant, replied, word_after, word_from, word_collected, occupant_of, word_if, is_drawn, word_in, AreCountsOf, maker, IsSeatOf}
 use Rattle.cpu_words.proofs.logs.Loads.{moves_past}
 use Rattle.cpu_words.proofs.logs.Marks.{fresh}
 use Rattle.cpu_words.proofs.logs.Runs.{item_of}
-use Rattle.cpu_words.proofs.by_keeper.Draining.{cell_put}
 
 -- One event
 

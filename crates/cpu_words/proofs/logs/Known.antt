@@ -14,7 +14,7 @@ use Rattle.protocol.proofs.keeps.ListKeeps.{may_write_tells}
 use Rattle.protocol.proofs.keeps.Searching.{within_some}
 use Rattle.protocol.proofs.keeps.References.{snapshot_due_tells}
 use Rattle.protocol.proofs.keeps.Linking.{within_retired}
-use Rattle.protocol.proofs.Cells.{cell_other, mark_there}
+use Rattle.protocol.proofs.Cells.{cell_other, mark_there, cell_put}
 use Rattle.protocol.proofs.keeps.Keeping.{opening_holds}
 use Rattle.cpu_words.specs.Common.{LogItem, Teller, number_or_none, by_number, keeps_next, keeping_from, keeping, word_in, changes_of, changes_in, AreCountsOf, AreTotalsOf, AreMarksOf, AreSlotsOf, maker, IsSeatOf, CpuView, KeeperView, Logged, View, Keeper, Cpu, log_item, FindsWord, WordsGrow, IsFreedFrom, IsAttachedKeeping, IsShownAfter, IsOwnLog, part, LoggedRuled, with_note, keeper_with_note}
 use Rattle.cpu_words.proofs.logs.Runs.{item_of, Stays, walked, Follows, follows_holds, cut}
@@ -23,7 +23,6 @@ use Rattle.cpu_words.proofs.logs.Counted.{counts_own, words_off, no_counts}
 use Rattle.cpu_words.proofs.logs.Marks.{IsFirst, fresh, more_marks, no_marks}
 use Rattle.cpu_words.proofs.logs.Slots.{slots_own, no_slots, changes_last}
 use Rattle.cpu_words.proofs.logs.Totalled.{totals_own, no_totals}
-use Rattle.cpu_words.proofs.by_keeper.Draining.{cell_put}
 
 -- What the keeper's log says of kept drivers.
 

@@ -12,6 +12,7 @@ use Rattle.protocol.proofs.History.{length-after_change}
 use Rattle.protocol.proofs.keeps.Keeping.{step_holds}
 use Rattle.protocol.proofs.Either.{either}
 use Rattle.protocol.proofs.keeps.SectionKeeps.{idle_parts}
+use Rattle.protocol.proofs.runs.Headline.{Same}
 use Rattle.cpu_words.specs.Common.{LogItem, Logged, by_number, log_of_events, changes_of, changes_in, part, untold, maker, IsSeatOf, AreByOwn, LoggedRuled, RunsAsLogged, reply_without_id, has_taken, has_found, HasNone, is_border, the_cpu}
 use Rattle.cpu_words.proofs.logs.Runs.{Follows, follows, item_of, same_first, same_rest}
 use Rattle.protocol.specs.History.{rank_at}
@@ -87,10 +88,6 @@ run_as_logged z s r =
 
 -- What an event does to the section of a CPU
 
--- the word of c and the begin of its section are as they were
-abbrev pub Same : ℕ → State → State → Type 0
-Same c s t = (section_at t c ≡ section_at s c) × (begin_at t c ≡ begin_at s c)
-
 -- an open section of c began at n or later
 abbrev pub Late : ℕ → ℕ → State → Type 0
 Late n c t = (b : ℕ) → begin_at t c ≡ Some b → n ≤ b
@@ -98,9 +95,6 @@ Late n c t = (b : ℕ) → begin_at t c ≡ Some b → n ≤ b
 -- its word went up or stayed, and its section is as it was, or began since s
 abbrev pub Since : ℕ → State → State → Type 0
 Since c s t = (section_at s c ≤ section_at t c) × (Same c s t ⊎ Late (length s.history) c t)
-
-pub still : (n : ℕ) → n ≤ n
-still n = omega arith
 
 pub since_same : (c : ℕ) (s t : State) → Same c s t → Since c s t
 since_same c s t same = (omega (arith, same.0), inl same)

@@ -9,7 +9,8 @@ use Rattle.atomic_table.specs.Table.{State as Table, Splits, Joins, keeps, stepp
 use Rattle.atomic_table.proofs.Lists.{at_set, at_map, at_longer, set_else}
 use Rattle.cpu_words.specs.Types.{Settings, Hear, Done}
 use Rattle.protocol.specs.Common.{State, opening, empty_run}
-use Rattle.cpu_words.specs.Common.{LogItem, Teller, Logged, EndedSeat, IsStillThere, AreStillThere, View, Keeper, Cpu, Reference, Note, Spent, Shown, Sits, Ruled, GoesOn, did, log_of_events, Moves, SplitsOn, JoinsOn, without_logs, part, events_of, untold, IsStanding, Maker, the_keeper, the_cpu, another, maker, maker_of_note, who, AreBy, IsSeatOf, AreByOwn, Knows, HasComeIf, AreToldBefore, ListGoesOn, spent_seat, LoggedRuled, KnownLogGrows, heard_from, HasHeardAll, HasItsSections, HasNone, is_border, is_hear, CpuView, logged_after_split, fresh, teller_of, joined_seat, logged_with_note}
+use Rattle.cpu_words.specs.Common.{LogItem, Teller, Logged, EndedSeat, AreStillThere, View, Keeper, Cpu, Reference, Note, Spent, Shown, Sits, Ruled, GoesOn, did, log_of_events, Moves, SplitsOn, JoinsOn, without_logs, part, untold, IsStanding, who, AreBy, IsSeatOf, AreByOwn, HasComeIf, ListGoesOn, spent_seat, LoggedRuled, KnownLogGrows, heard_from, HasNone, is_border, is_hear, CpuView}
+use Rattle.cpu_words.specs.Logs
 use Rattle.cpu_words.proofs.shown.Showing.{was_there, at_end}
 use Rattle.cpu_words.proofs.logs.Runs.{by_seat, part_append, part_own, part_other, events_of_seat}
 use Rattle.cpu_words.proofs.logs.Told.{HearsWith, deaf_with, hear_with, heard_own, heard_other, heard_none, sections_more, sections_whole, AreToldPast, come_more, come_seats, told_more, plain_of_end, plain_from, plain_past, heard_past}
@@ -22,20 +23,20 @@ at_within (x ∷ xs) (suc i) a e = let h = at_within xs i a e in omega arith
 
 -- Whose the seats are
 
-seat_of_more : (seat next : ℕ → ℕ) (n more i : ℕ) (m : Maker) → n ≤ more → ((c : ℕ) → c < n → next c ≡ seat c) → IsSeatOf seat n i m → IsSeatOf next more i m
-seat_of_more seat next n more i the_keeper le same is = is
-seat_of_more seat next n more i (the_cpu c) le same is = (is.0 ∙ sym (same c is.1), let lt = is.1 in omega arith)
-seat_of_more seat next n more i another le same is = tt
+seat_of_more : (seat next : ℕ → ℕ) (n more i : ℕ) (m : Logs.Maker) → n ≤ more → ((c : ℕ) → c < n → next c ≡ seat c) → IsSeatOf seat n i m → IsSeatOf next more i m
+seat_of_more seat next n more i Logs.the_keeper le same is = is
+seat_of_more seat next n more i (Logs.the_cpu c) le same is = (is.0 ∙ sym (same c is.1), let lt = is.1 in omega arith)
+seat_of_more seat next n more i Logs.another le same is = tt
 
 by_own_more : (seat next : ℕ → ℕ) (n more : ℕ) (acts : List (ℕ × LogItem)) → n ≤ more → ((c : ℕ) → c < n → next c ≡ seat c) → AreByOwn seat n acts → AreByOwn next more acts
 by_own_more seat next n more [] le same are = tt
-by_own_more seat next n more (a ∷ rest) le same are = (seat_of_more seat next n more a.0 (maker a.1.event) le same are.0, by_own_more seat next n more rest le same are.1)
+by_own_more seat next n more (a ∷ rest) le same are = (seat_of_more seat next n more a.0 (Logs.maker a.1.event) le same are.0, by_own_more seat next n more rest le same are.1)
 
 by_own_append : (seat : ℕ → ℕ) (n : ℕ) (a b : List (ℕ × LogItem)) → AreByOwn seat n a → AreByOwn seat n b → AreByOwn seat n (a ++ b)
 by_own_append seat n [] b first second = second
 by_own_append seat n (x ∷ rest) b first second = (first.0, by_own_append seat n rest b first.1 second)
 
-by_own_seat : (seat : ℕ → ℕ) (n i : ℕ) (m : Maker) (ds : List LogItem) → IsSeatOf seat n i m → AreBy m ds → AreByOwn seat n (by_seat i ds)
+by_own_seat : (seat : ℕ → ℕ) (n i : ℕ) (m : Logs.Maker) (ds : List LogItem) → IsSeatOf seat n i m → AreBy m ds → AreByOwn seat n (by_seat i ds)
 by_own_seat seat n i m [] is all = tt
 by_own_seat seat n i m (d ∷ ds) is all = (subst (IsSeatOf seat n i) (sym all.0) is, by_own_seat seat n i m ds is all.1)
 
@@ -70,11 +71,11 @@ MayName l ds h = (g : State) (seat : ℕ → ℕ) (i : ℕ) (acts : List (ℕ ×
 -- what the list says of the seat j
 record FitsIn (seat : ℕ → ℕ) (n : ℕ) (acts : List (ℕ × LogItem)) (j : ℕ) (u : Logged) : Type 0 where
   logs : IsStanding u.view → u.log ≡ part j acts
-  known : Knows u (part 0 acts)
+  known : Logs.Knows u (part 0 acts)
   tellers : HasComeIf seat n acts u.teller
   lists : IsPrefix u.list acts
-  sections : IsStanding u.view → HasItsSections j u
-  heard : IsStanding u.view → HasHeardAll j u acts
+  sections : IsStanding u.view → Logs.HasItsSections j u
+  heard : IsStanding u.view → Logs.HasHeardAll j u acts
 
 -- one seat is written
 pub each_of_set : (P : ℕ → Logged → Type 0) (l : List Logged) (i : ℕ) (a : Logged) → P i a → ((j : ℕ) (u : Logged) → j ≢ i → get_elem? l j ≡ some u → P j u)
@@ -87,16 +88,16 @@ each_of_set P l i a here others j u there = ⊎_elim
 -- what a run that goes on with log items of the seat id keeps
 record Went (z : Settings) (s : Table ℕ Logged) (r : LoggedRuled z s) (id : ℕ) (log its ds : List LogItem) (t : Table ℕ View) (goes : GoesOn z (without_logs s) r.run ds t) : Type 0 where
   acts : List (ℕ × LogItem)
-  are : events_of acts ≡ log_of_events z goes.ruled.reached.events
+  are : Logs.events_of acts ≡ log_of_events z goes.ruled.reached.events
   owners : AreByOwn goes.ruled.seat goes.ruled.g.seated acts
   mine : log ++ its ≡ part id acts
   stay : (j : ℕ) (u : Logged) → j ≢ id → get_elem? s.views j ≡ some u → FitsIn goes.ruled.seat goes.ruled.g.seated acts j u
   unseated : (j : ℕ) → length s.views ≤ j → part j acts ≡ []
   known : (d : List LogItem) → IsPrefix d (part 0 r.acts) → IsPrefix d (part 0 acts)
   longer : acts ≡ r.acts ++ by_seat id its
-  own_heard : (l m : Logged) → get_elem? s.views id ≡ some l → IsStanding l.view → IsPrefix l.known_log m.known_log → HearsWith id r.acts its m.known_log → HasHeardAll id m acts
+  own_heard : (l m : Logged) → get_elem? s.views id ≡ some l → IsStanding l.view → IsPrefix l.known_log m.known_log → HearsWith id r.acts its m.known_log → Logs.HasHeardAll id m acts
   listed : (d : List (ℕ × LogItem)) → IsPrefix d r.acts → IsPrefix d acts
-  told : AreToldBefore goes.ruled.seat goes.ruled.g.seated acts
+  told : Logs.AreToldBefore goes.ruled.seat goes.ruled.g.seated acts
   tellers : (h : Option Teller) → HasComeIf r.run.seat r.run.g.seated r.acts h → HasComeIf goes.ruled.seat goes.ruled.g.seated acts h
   -- one who has come so far by what was done now
   newer : (h : Option Teller) → HasComeIf r.run.seat r.run.g.seated acts h → HasComeIf goes.ruled.seat goes.ruled.g.seated acts h
@@ -171,7 +172,7 @@ ruled_on z s t r id log its ds goes on each longer ends = record {
 
 -- Seats that have ended stay as they were, as one moves that hasn't
 
-still_set : (views : List Logged) (i : ℕ) (l m : Logged) (e : EndedSeat) → get_elem? views i ≡ some l → l.ended ≡ false → IsStillThere views e → IsStillThere (set views i m) e
+still_set : (views : List Logged) (i : ℕ) (l m : Logged) (e : EndedSeat) → get_elem? views i ≡ some l → l.ended ≡ false → Logs.IsStillThere views e → Logs.IsStillThere (set views i m) e
 still_set views i l m e at going had = record {
   place = had.place;
   seat = had.seat;
@@ -198,7 +199,7 @@ ends_same views i l m at going had same = ends_set views i l m at going had
 none_there : (views : List Logged) (ends : List EndedSeat) → ends ≡ [] → AreStillThere views ends
 none_there views ends none n e is = absurd (some-ne-none e (sym is ∙ ap (λ (l : List EndedSeat). get_elem? l n) none))
 
-still_longer : (views more : List Logged) (e : EndedSeat) → IsStillThere views e → IsStillThere (views ++ more) e
+still_longer : (views more : List Logged) (e : EndedSeat) → Logs.IsStillThere views e → Logs.IsStillThere (views ++ more) e
 still_longer views more e had = record { place = had.place; seat = had.seat; at = at_longer views more had.place had.seat had.at; ended = had.ended; is = had.is }
 
 ends_longer : (views : List Logged) (b : Logged) → b.ends ≡ [] → AreAllThere views → AreAllThere (views ++ b ∷ [])
@@ -283,7 +284,7 @@ LoggedHears z l i f by tells = (s : Table ℕ Logged) (r : LoggedRuled z s) (id 
     × LoggedRuled z (stepped s i (f (slice_index s.words i)) id [] (record l { view = w; log = l.log ++ heard_from by l.teller; known_log = d; list = all }) keeps)
     × tells (slice_index s.words i) w × KnownLogGrows l.known_log l.noted_log d × (d ≡ part 0 r.acts) × ListGoesOn l.list (l.log ++ heard_from by l.teller) all
 
-pub logged_hears : (z : Settings) (l : Logged) (i : ℕ) (f : ℕ → ℕ) (by : Option ℕ) (tells : ℕ → View → Type 0) → IsStanding l.view → l.ended ≡ false → maker_of_note by ≡ who l.view
+pub logged_hears : (z : Settings) (l : Logged) (i : ℕ) (f : ℕ → ℕ) (by : Option ℕ) (tells : ℕ → View → Type 0) → IsStanding l.view → l.ended ≡ false → Logs.maker_of_note by ≡ who l.view
     → Moves z l.view i f (λ _. did (Hear by) Done) tells → LoggedHears z l i f by tells
 logged_hears z l i f by tells stands going own moves s r id at fits =
     let done = moves (without_logs s) r.run id (at_map (λ (x : Logged). x.view) s.views id l at) fits in
@@ -300,7 +301,7 @@ logged_hears z l i f by tells stands going own moves s r id at fits =
     )
 
 -- and of the keeper's, which knows its own log
-pub logged_heard : (z : Settings) (l : Logged) (i : ℕ) (f : ℕ → ℕ) (tells : ℕ → View → Type 0) → IsStanding l.view → l.ended ≡ false → the_keeper ≡ who l.view → Moves z l.view i f (λ _. did (Hear None) Done) tells
+pub logged_heard : (z : Settings) (l : Logged) (i : ℕ) (f : ℕ → ℕ) (tells : ℕ → View → Type 0) → IsStanding l.view → l.ended ≡ false → Logs.the_keeper ≡ who l.view → Moves z l.view i f (λ _. did (Hear None) Done) tells
     → LoggedMoves z l i f (λ _. heard_from None l.teller) tells
 logged_heard z l i f tells stands going own moves s r id at fits =
     let done = moves (without_logs s) r.run id (at_map (λ (x : Logged). x.view) s.views id l at) fits in (
@@ -433,7 +434,7 @@ tells_whole l ds keeper all known whole = ([], append-nil (l.log ++ ds) ∙ whol
 pub names_nobody : (l : Logged) (ds : List LogItem) → MayName l ds None
 names_nobody l ds g seat i acts sits shown whole = tt
 
-pub names_cpu : (l : Logged) (x : CpuView) (d : LogItem) → MayName (record l { view = Cpu x }) (d ∷ []) (Some (teller_of x l.log))
+pub names_cpu : (l : Logged) (x : CpuView) (d : LogItem) → MayName (record l { view = Cpu x }) (d ∷ []) (Some (Logs.teller_of x l.log))
 names_cpu l x d g seat i acts sits shown whole = record {
   seated = shown.seated;
   events = let size : length (l.log ++ d ∷ []) ≡ length (part (seat x.id) acts) =
@@ -443,23 +444,23 @@ names_cpu l x d g seat i acts sits shown whole = record {
 pub seat_cut : (z : Settings) (i : ℕ) (l : Logged) (v : View) (left right : View → View) (does : View → List LogItem) (tells : Logged → List LogItem) (by : Logged → Option Teller) (ds : List LogItem)
     → l ≡ record l { view = v } → l.ended ≡ false → IsStanding v → AreBy (who v) ds → HasNone is_border ds → HasNone is_hear ds → does v ≡ ds → MayTell (record l { view = v }) ds (tells (record l { view = v }))
     → MayName (record l { view = v }) ds (by (record l { view = v })) → SplitsOn z i v (left v) (right v) ds
-    → Splits (LoggedRuled z) i l (logged_after_split left does l) (fresh right tells by l)
+    → Splits (LoggedRuled z) i l (Logs.logged_after_split left does l) (Logs.fresh right tells by l)
 seat_cut z i l v left right does tells by ds is going stands own borders quiet same may named on =
-    subst (λ (m : Logged). Splits (LoggedRuled z) i m (logged_after_split left does m) (fresh right tells by m)) (sym is)
+    subst (λ (m : Logged). Splits (LoggedRuled z) i m (Logs.logged_after_split left does m) (Logs.fresh right tells by m)) (sym is)
     (subst (λ (d : List LogItem). Splits (LoggedRuled z) i (record l { view = v }) (record l { view = left v; log = l.log ++ d })
     (record { view = right v; log = []; known_log = tells (record l { view = v }); noted_log = []; teller = by (record l { view = v }); list = []; ends = []; ended = false })) (sym same)
     (logged_splits z i (record l { view = v }) (left v) (right v) ds (tells (record l { view = v })) (by (record l { view = v })) stands going own borders quiet may named on))
 
 pub seat_join : (z : Settings) (i o : ℕ) (l m : Logged) (v w : View) (both : View → View → View) (does : View → View → List LogItem) (ds : List LogItem)
     → l ≡ record l { view = v } → m ≡ record m { view = w } → l.ended ≡ false → m.ended ≡ false → IsStanding v → AreBy (who v) ds → HasNone is_border ds → HasNone is_hear ds → does v w ≡ ds → JoinsOn z i v o w (both v w) Spent ds
-    → Joins (LoggedRuled z) i l o m (joined_seat both does l m) spent_seat
+    → Joins (LoggedRuled z) i l o m (Logs.joined_seat both does l m) spent_seat
 seat_join z i o l m v w both does ds is that going other stands by borders quiet same on =
-    subst (λ (p : Logged × Logged). Joins (LoggedRuled z) i p.0 o p.1 (joined_seat both does p.0 p.1) spent_seat) (λ k. (sym is k, sym that k))
+    subst (λ (p : Logged × Logged). Joins (LoggedRuled z) i p.0 o p.1 (Logs.joined_seat both does p.0 p.1) spent_seat) (λ k. (sym is k, sym that k))
     (subst (λ (d : List LogItem). Joins (LoggedRuled z) i (record l { view = v }) o (record m { view = w }) (record l { view = both v w; log = l.log ++ d }) spent_seat) (sym same)
     (logged_joins z i (record l { view = v }) o (record m { view = w }) (both v w) ds l.noted_log l.teller stands going other by borders quiet (inl (refl, refl)) on))
 
 pub seat_with_note : (z : Settings) (i o : ℕ) (l m : Logged) (v w : View) (both : View → View → View)
-    → l ≡ record l { view = v } → m ≡ record m { view = w } → l.ended ≡ false → m.ended ≡ false → IsStanding v → JoinsOn z i v o w (both v w) Spent [] → Joins (LoggedRuled z) i l o m (logged_with_note both l m) spent_seat
+    → l ≡ record l { view = v } → m ≡ record m { view = w } → l.ended ≡ false → m.ended ≡ false → IsStanding v → JoinsOn z i v o w (both v w) Spent [] → Joins (LoggedRuled z) i l o m (Logs.logged_with_note both l m) spent_seat
 seat_with_note z i o l m v w both is that going other stands on =
-    subst (λ (p : Logged × Logged). Joins (LoggedRuled z) i p.0 o p.1 (logged_with_note both p.0 p.1) spent_seat) (λ k. (sym is k, sym that k))
+    subst (λ (p : Logged × Logged). Joins (LoggedRuled z) i p.0 o p.1 (Logs.logged_with_note both p.0 p.1) spent_seat) (λ k. (sym is k, sym that k))
     (logged_joins_same z i (record l { view = v }) o (record m { view = w }) (both v w) m.known_log m.teller stands going other (inr (refl, refl)) on)

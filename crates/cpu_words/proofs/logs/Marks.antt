@@ -1,6 +1,6 @@
 -- What the keeper's log says of marks: each snapshot that a mark has, and each pass, is in it; and what follows from the words in it.
 use Rattle.std.proofs.Common.{◌≡◌, ◌⊎◌, inl, inr, ⊎_elim, ℕ, zero, suc, ◌<◌, ◌≤◌, ◌==◌, ◌||◌, Bool, true, false, List, [], ◌∷◌, ◌++◌, length, get_or, set, replicate, Option, Some, None, ne_eqb, refl, sym, ap, ◌∙◌, subst, append_assoc, ◌%◌, arith}
-use Rattle.std.proofs.lemmas.Bool.{or_cases, not-true, eqb-true, eqb-false, cases_eq, cases_lt}
+use Rattle.std.proofs.lemmas.Bool.{or_cases, eqb-true, eqb-false, cases_eq, cases_lt}
 use Rattle.std.proofs.lemmas.List.{get_or_past, set_past}
 use Rattle.std.proofs.lemmas.Option.{none-some, same_Some}
 use Rattle.cpu_words.specs.Types.{Mark, Settings, MOST_CPUS, Event, Unpublish, Republish, Snapshot, PassiveLook, Collect, Reply, Done, Word, Snapshots}
@@ -8,11 +8,11 @@ use Rattle.registry_values.specs.Common.{no_mark, is_even, has_changed, mark_aft
 use Rattle.protocol.specs.Common.{State, with_cell, section_at, mark_at, opening, snapshot_mark}
 use Rattle.protocol.proofs.Made.{Made, Unpublishes, Republishes, Snaps, Looks, LooksPassive, Collects}
 use Rattle.protocol.proofs.keeps.References.{snapshot_due_tells}
-use Rattle.protocol.proofs.Cells.{cell_in_new, cell_in_old, get_or_all}
+use Rattle.protocol.proofs.Cells.{cell_in_new, cell_in_old, get_or_all, cell_put}
+use Rattle.protocol.proofs.keeps.Marking.{changed_word}
 use Rattle.cpu_words.specs.Common.{LogItem, Teller, has_snapped, has_looked, is_detach_from, KeepsEntry, IsSnapped, HasPassedOn, AreMarksOf, has_taken, has_found, IsSeenOut, FindsWord, WordsGrow}
 use Rattle.cpu_words.proofs.logs.Loads.{no_place}
 use Rattle.cpu_words.proofs.logs.Runs.{item_as, item_of, same_first, same_rest}
-use Rattle.cpu_words.proofs.by_keeper.Draining.{cell_put}
 
 -- A log with one item more
 
@@ -132,10 +132,6 @@ snapshot_marks log marks t c v free there are =
           (λ is. passed_more u j log (has_snapped t c v) refl (are.passed u j is));
     }
 
-changed : (o : Option ℕ) (w : ℕ) → has_changed o w ≡ true → (x : ℕ) × (o ≡ Some x) × (w ≡ x → ⊥)
-changed None w is = absurd (let q : false ≡ true = is in cc)
-changed (Some x) w is = (x, refl, λ (same : w ≡ x). eqb-false x w (not-true (x == w) is) (sym same))
-
 -- a mark at t and c whose snapshot stays; it may have passed now
 cell_marks : (log : List LogItem) (marks : List (List Mark)) (t c : ℕ) (m : Mark) (d : LogItem) → ((u : ℕ) → is_detach_from u d.event ≡ false) → is_for_entry d.event ≡ false
     → m.snapshot ≡ (mark_at marks t c).snapshot → (m.passed ≡ true → HasPassedOn t c (log ++ d ∷ []))
@@ -164,7 +160,7 @@ look_marks log marks t c w are =
       since = tt;
       out = ⊎_elim
           (λ (even : is_even w ≡ true). inl (eqb-true _ 0 even))
-          (λ (other : has_changed m.snapshot w ≡ true). let x = changed m.snapshot w other in inr (x.0, are.snapped t c x.0 x.1, x.2))
+          (λ (other : has_changed m.snapshot w ≡ true). let x = changed_word m.snapshot w other in inr (x.0, are.snapped t c x.0 x.1, x.2))
           (or_cases (is_even w) (has_changed m.snapshot w) now);
     })
     (or_cases m.passed (is_even w || has_changed m.snapshot w) is))

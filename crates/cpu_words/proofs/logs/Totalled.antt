@@ -9,7 +9,8 @@ use Rattle.std.proofs.lemmas.List.Sums.{sum_by-cons}
 use Rattle.std.proofs.lemmas.Option.{same_Some}
 use Rattle.registry_values.specs.Common.{bias, no_mark, is_retired, slot_at, slot_of}
 use Rattle.registry_values.proofs.Fit.{ranges}
-use Rattle.protocol.specs.Common.{may_publish, after_publish, may_republish, are_unused, entry_of, row_at, may_collect, after_collect, after_total, number_standing, local_at, may_join_keeper, after_join_keeper, is_drained, after_kept_sub, State, opening, mark_at, count_at, total_at, kept_at, at_rest, may_examine, may_join, is_drainable, is_bias, Holds, IsIn, one_if, addition_due_at, is_adding_at, subtraction_due_at}
+use Rattle.protocol.specs.Common.{row_at, local_at, State, opening, mark_at, count_at, total_at, kept_at, at_rest, Holds, IsIn, one_if, addition_due_at, is_adding_at, subtraction_due_at, after_join_keeper, after_total, may_join}
+use Rattle.protocol.specs.Events
 use Rattle.protocol.proofs.Either.{either}
 use Rattle.protocol.proofs.Made.{Made, Publishes, Unpublishes, Republishes, Snaps, Collects, AddsTotal, SubsTotal, JoinsKeeper, SubsKept, Vacates}
 use Rattle.protocol.proofs.counts.Bounds.{adding_range, adding_within, driver_positive, subtracting_range}
@@ -68,11 +69,11 @@ entry_in Vacant n is = absurd (let q : ◌≡◌ {A = Option ℕ} None (Some n) 
 entry_in (Live e) n is = (e, inl refl, same_Some e.number n is)
 entry_in (Retired e) n is = (e, inr refl, same_Some e.number n is)
 
-number_in : (e : Entry) (x : Slot) → IsIn e x → occupant_of x ≡ Some e.number
-number_in e x here = ⊎_elim (λ (live : x ≡ Live e). ap occupant_of live) (λ (gone : x ≡ Retired e). ap occupant_of gone) here
+pub in_occupant : (e : Entry) (x : Slot) → IsIn e x → occupant_of x ≡ Some e.number
+in_occupant e x here = ⊎_elim (λ (live : x ≡ Live e). ap occupant_of live) (λ (gone : x ≡ Retired e). ap occupant_of gone) here
 
 at_slot : (s : State) (n t : ℕ) → slot_of s.slots n ≡ Some t → IsAt s t n
-at_slot s n t of = let has = slot_has s.slots n t of in number_in has.1.0 (slot_at s.slots t) has.1.1 ∙ ap (λ (k : ℕ). Some k) has.1.2
+at_slot s n t of = let has = slot_has s.slots n t of in in_occupant has.1.0 (slot_at s.slots t) has.1.1 ∙ ap (λ (k : ℕ). Some k) has.1.2
 
 -- two occupied slots are one exactly if their entries' numbers are
 one_alike : (s : State) (t n u m : ℕ) → Holds s → IsAt s t n → IsAt s u m → one_if (u == t) ≡ one_if (m == n)
@@ -180,12 +181,12 @@ if_off : {X : Type 0} (u t : ℕ) (x y : X) → (u ≡ t → ⊥) → (if u == t
 if_off u t x y off = ap (λ (b : Bool). if b then x else y) (ne_eqb u t off)
 
 -- a slot gets an entry, by either event, with its total at the bias; nothing was collected for the new entry, and nothing given up
-published_here : (log : List LogItem) (s : State) (u : ℕ) (e : Entry) (h : Option Teller) (n : ℕ) → Holds s → may_publish s u e ≡ true → suc (changes_in log) ≡ n → SaidBefore log s
-    → Next log s (Publish u) (after_publish s u e) Done h u n
+published_here : (log : List LogItem) (s : State) (u : ℕ) (e : Entry) (h : Option Teller) (n : ℕ) → Holds s → Events.may_publish s u e ≡ true → suc (changes_in log) ≡ n → SaidBefore log s
+    → Next log s (Publish u) (Events.after_publish s u e) Done h u n
 published_here log s u e h n on may number known =
     let told = may_publish_tells s u e on.shape may in
     let none : given_up n log ≡ 0 = known.totals.later n (omega (arith, number)) in
-    let unused = and_parts (list_all is_bias (take s.settings.cpus (get_or s.counts u []))) (total_at s.totals u == bias) told.unused in
+    let unused = and_parts (list_all Events.is_bias (take s.settings.cpus (get_or s.counts u []))) (total_at s.totals u == bias) told.unused in
     let quiet = quiet_rest s.due u told.rest in
     let d : LogItem = item_of s (Publish u) Done h in
     let word : (c : ℕ) → word_collected u c (log ++ d ∷ []) ≡ None =
@@ -195,21 +196,21 @@ published_here log s u e h n on may number known =
     published_sum (total_at s.totals u) (addition_due_at u s.due) (given_up n (log ++ d ∷ [])) (words_collected u (log ++ d ∷ [])) (is_adding_at u s.due)
     (subtraction_due_at u s.due) (sum_collected u (log ++ d ∷ [])) (given_up n log) (eqb-true (total_at s.totals u) bias unused.1) quiet.0 quiet.1 quiet.2 words sum (given_more n log d) none
 
-published_next : (log : List LogItem) (s : State) (u : ℕ) (e : Entry) (h : Option Teller) (t n : ℕ) → Holds s → may_publish s u e ≡ true
-    → occupant_after t (changes_in log) (Publish u) (occupant t log) ≡ Some n → SaidBefore log s → Next log s (Publish u) (after_publish s u e) Done h t n
+published_next : (log : List LogItem) (s : State) (u : ℕ) (e : Entry) (h : Option Teller) (t n : ℕ) → Holds s → Events.may_publish s u e ≡ true
+    → occupant_after t (changes_in log) (Publish u) (occupant t log) ≡ Some n → SaidBefore log s → Next log s (Publish u) (Events.after_publish s u e) Done h t n
 published_next log s u e h t n on may is known = either (cases_eq u t)
     (λ same.
     let number = same_Some (suc (changes_in log)) n (sym (if_here u t (Some (suc (changes_in log))) (occupant t log) same) ∙ is) in
-    subst (λ (v : ℕ). Next log s (Publish u) (after_publish s u e) Done h v n) same (published_here log s u e h n on may number known))
+    subst (λ (v : ℕ). Next log s (Publish u) (Events.after_publish s u e) Done h v n) same (published_here log s u e h n on may number known))
     (λ off. untouched log s (Publish u) Done h t n (λ c. refl) refl (known.totals.total t n (sym (if_off u t (Some (suc (changes_in log))) (occupant t log) off) ∙ is)))
 
 -- so it is where an entry comes in another's place
 
-republished_here : (log : List LogItem) (s g : State) (v u : ℕ) (h : Option Teller) (n : ℕ) → slot_at s.slots v ≡ Vacant → are_unused s v ≡ true → suc (changes_in log) ≡ n → g.totals ≡ s.totals
+republished_here : (log : List LogItem) (s g : State) (v u : ℕ) (h : Option Teller) (n : ℕ) → slot_at s.slots v ≡ Vacant → Events.are_unused s v ≡ true → suc (changes_in log) ≡ n → g.totals ≡ s.totals
     → g.due ≡ Snapshots u 0 → SaidBefore log s → Next log s (Republish v u) g Done h v n
 republished_here log s g v u h n vacant free number totals due known =
     let none : given_up n log ≡ 0 = known.totals.later n (omega (arith, number)) in
-    let unused = and_parts (list_all is_bias (take s.settings.cpus (get_or s.counts v []))) (total_at s.totals v == bias) free in
+    let unused = and_parts (list_all Events.is_bias (take s.settings.cpus (get_or s.counts v []))) (total_at s.totals v == bias) free in
     let quiet = due_alike g.due (Snapshots u 0) due v in
     let d : LogItem = item_of s (Republish v u) Done h in
     let word : (c : ℕ) → word_collected v c (log ++ d ∷ []) ≡ None =
@@ -220,8 +221,8 @@ republished_here log s g v u h n vacant free number totals due known =
     (subtraction_due_at v g.due) (sum_collected v (log ++ d ∷ [])) (given_up n log) (ap (λ (x : List ℕ). total_at x v) totals ∙ eqb-true (total_at s.totals v) bias unused.1) quiet.0 quiet.1 quiet.2
     words sum (given_more n log d) none
 
-republished_next : (log : List LogItem) (s g : State) (v u : ℕ) (e f : Entry) (h : Option Teller) (t n : ℕ) → Holds s → entry_of v (row_at s.rows v) ≡ Some e → slot_at s.slots u ≡ Live f
-    → may_republish s v u e f ≡ true → g.totals ≡ s.totals → g.due ≡ Snapshots u 0 → occupant_after t (changes_in log) (Republish v u) (occupant t log) ≡ Some n → SaidBefore log s
+republished_next : (log : List LogItem) (s g : State) (v u : ℕ) (e f : Entry) (h : Option Teller) (t n : ℕ) → Holds s → Events.entry_of v (row_at s.rows v) ≡ Some e → slot_at s.slots u ≡ Live f
+    → Events.may_republish s v u e f ≡ true → g.totals ≡ s.totals → g.due ≡ Snapshots u 0 → occupant_after t (changes_in log) (Republish v u) (occupant t log) ≡ Some n → SaidBefore log s
     → Next log s (Republish v u) g Done h t n
 republished_next log s g v u e f h t n on of at may totals due is known =
     let told = may_republish_tells s v u e f on of at may in
@@ -230,19 +231,19 @@ republished_next log s g v u e f h t n on of at may totals due is known =
     (λ same.
     let number = same_Some (suc (changes_in log)) n (sym (if_here v t (Some (suc (changes_in log))) (occupant t log) same) ∙ is) in
     subst (λ (w : ℕ). Next log s (Republish v u) g Done h w n) same
-    (republished_here log s g v u h n (ap (slot_at s.slots) (sym told.0) ∙ swap.swap.vacant) (ap (are_unused s) (sym told.0) ∙ swap.unused) number totals due known))
+    (republished_here log s g v u h n (ap (slot_at s.slots) (sym told.0) ∙ swap.swap.vacant) (ap (Events.are_unused s) (sym told.0) ∙ swap.unused) number totals due known))
     (λ off. as_much log s (Republish v u) g Done h t n (λ c. refl)
     (quietly log s (Republish v u) g t n refl totals (quiet_rest s.due t swap.rest) (due_alike g.due (Snapshots u 0) due t))
     (known.totals.total t n (sym (if_off v t (Some (suc (changes_in log))) (occupant t log) off) ∙ is)))
 
 -- the word that is collected is one more, and counts once it is added
 
-collected_here : (log : List LogItem) (s : State) (c : ℕ) (h : Option Teller) (t n : ℕ) → Holds s → may_collect s t c ≡ true → occupant t log ≡ Some n → SaidBefore log s
-    → Next log s (Collect t c) (after_collect s t c) (Word (count_at s.counts c t)) h t n
+collected_here : (log : List LogItem) (s : State) (c : ℕ) (h : Option Teller) (t n : ℕ) → Holds s → Events.may_collect s t c ≡ true → occupant t log ≡ Some n → SaidBefore log s
+    → Next log s (Collect t c) (Events.after_collect s t c) (Word (count_at s.counts c t)) h t n
 collected_here log s c h t n on may is known =
     let w = count_at s.counts c t in
-    let p = and_parts (may_examine s t c) (is_drainable s t && not (mark_at s.marks t c).collected) may in
-    let q = and_parts (is_drainable s t) (not (mark_at s.marks t c).collected) p.1 in
+    let p = and_parts (Events.may_examine s t c) (Events.is_drainable s t && not (mark_at s.marks t c).collected) may in
+    let q = and_parts (Events.is_drainable s t) (not (mark_at s.marks t c).collected) p.1 in
     let told = may_examine_tells s t c p.0 in
     let low : c < MOST_CPUS = omega (arith, told.1, (ranges s.settings on.fit).cpus) in
     let d : LogItem = item_of s (Collect t c) (Word w) h in
@@ -262,21 +263,21 @@ collected_here log s c h t n on may is known =
     (word_or_none (word_collected t c log)) (word_or_none (word_collected t c (log ++ d ∷ []))) words sum (ap is_there old) (ap is_there new) (ap word_or_none old) (ap word_or_none new) given
     (known.totals.total t n is) refl quiet.0 quiet.1 quiet.2 (if_here t t w 0 refl) (one_self t t refl) refl
 
-collected_off : (log : List LogItem) (s : State) (u c : ℕ) (h : Option Teller) (t n : ℕ) → (u ≡ t → ⊥) → may_collect s u c ≡ true → occupant t log ≡ Some n → SaidBefore log s
-    → Next log s (Collect u c) (after_collect s u c) (Word (count_at s.counts c u)) h t n
+collected_off : (log : List LogItem) (s : State) (u c : ℕ) (h : Option Teller) (t n : ℕ) → (u ≡ t → ⊥) → Events.may_collect s u c ≡ true → occupant t log ≡ Some n → SaidBefore log s
+    → Next log s (Collect u c) (Events.after_collect s u c) (Word (count_at s.counts c u)) h t n
 collected_off log s u c h t n off may is known =
     let w = count_at s.counts c u in
-    let p = and_parts (may_examine s u c) (is_drainable s u && not (mark_at s.marks u c).collected) may in
+    let p = and_parts (Events.may_examine s u c) (Events.is_drainable s u && not (mark_at s.marks u c).collected) may in
     let after : IsQuiet (Adding u w) t = (if_off u t w 0 off, one_other u t off, refl) in
-    as_much log s (Collect u c) (after_collect s u c) (Word w) h t n (λ j. ap (λ (b : Bool). if b && c == j then Some w else word_collected t j log) (ne_eqb u t off))
-    (quietly log s (Collect u c) (after_collect s u c) t n refl refl (quiet_rest s.due t (may_examine_tells s u c p.0).0) after) (known.totals.total t n is)
+    as_much log s (Collect u c) (Events.after_collect s u c) (Word w) h t n (λ j. ap (λ (b : Bool). if b && c == j then Some w else word_collected t j log) (ne_eqb u t off))
+    (quietly log s (Collect u c) (Events.after_collect s u c) t n refl refl (quiet_rest s.due t (may_examine_tells s u c p.0).0) after) (known.totals.total t n is)
 
-collected_next : (log : List LogItem) (s : State) (u c : ℕ) (h : Option Teller) (t n : ℕ) → Holds s → may_collect s u c ≡ true → occupant t log ≡ Some n → SaidBefore log s
-    → Next log s (Collect u c) (after_collect s u c) (Word (count_at s.counts c u)) h t n
+collected_next : (log : List LogItem) (s : State) (u c : ℕ) (h : Option Teller) (t n : ℕ) → Holds s → Events.may_collect s u c ≡ true → occupant t log ≡ Some n → SaidBefore log s
+    → Next log s (Collect u c) (Events.after_collect s u c) (Word (count_at s.counts c u)) h t n
 collected_next log s u c h t n on may is known = either (cases_eq u t)
     (λ same.
     let here = collected_here log s c h u n on may (ap (λ (v : ℕ). occupant v log) same ∙ is) known in
-    subst (λ (v : ℕ). Next log s (Collect u c) (after_collect s u c) (Word (count_at s.counts c u)) h v n) same here)
+    subst (λ (v : ℕ). Next log s (Collect u c) (Events.after_collect s u c) (Word (count_at s.counts c u)) h v n) same here)
     (λ off. collected_off log s u c h t n off may is known)
 
 -- what was collected is in the total then, less its bias
@@ -299,15 +300,15 @@ subtracted_much log s u t n on due =
     omega (arith, one_subtracted s.totals u (omega (arith, range.0, on.shape.totals)) range.1 t, before.0, before.1, before.2)
 
 -- a reference is given up, and is due for subtraction from its entry's slot
-joined_much : (log : List LogItem) (s : State) (id m u t n : ℕ) → Holds s → number_standing (local_at s.locals id) ≡ Some m → slot_of s.slots m ≡ Some u → may_join_keeper s u ≡ true
+joined_much : (log : List LogItem) (s : State) (id m u t n : ℕ) → Holds s → Events.number_standing (local_at s.locals id) ≡ Some m → slot_of s.slots m ≡ Some u → Events.may_join_keeper s u ≡ true
     → occupant t log ≡ Some n → SaidBefore log s → IsAsMuch log s (JoinKeeper id) (after_join_keeper s id u) t n
 joined_much log s id m u t n on at of may is known =
     let before = quiet_rest s.due t (at_rest_tells s.due (and_parts (at_rest s.due) _ (and_parts (is_retired (slot_at s.slots u)) (may_join s u) may).1).0) in
     omega (arith, one_alike s t n u m on (sym (known.counts.occupants t) ∙ is) (at_slot s m u of), ap (λ (x : Option ℕ). one_if (number_or_none x == n)) at, before.0, before.1, before.2)
 
 -- of another slot than the one made vacant: the driver's total is 1 less, and one more reference to it is given up
-gave_up_much : (log : List LogItem) (s : State) (v d u t n : ℕ) → Holds s → kept_at s.keeps v ≡ Some d → slot_of s.slots d ≡ Some u → is_drained s v ≡ true
-    → occupant t log ≡ Some n → SaidBefore log s → IsAsMuch log s (KeptSub v) (after_kept_sub s v u) t n
+gave_up_much : (log : List LogItem) (s : State) (v d u t n : ℕ) → Holds s → kept_at s.keeps v ≡ Some d → slot_of s.slots d ≡ Some u → Events.is_drained s v ≡ true
+    → occupant t log ≡ Some n → SaidBefore log s → IsAsMuch log s (KeptSub v) (Events.after_kept_sub s v u) t n
 gave_up_much log s v d u t n on keeps of drained is known =
     let given : given_by log n (KeptSub v) ≡ one_if (d == n) = ap (λ (x : Option ℕ). one_if (names x n)) (sym (known.kept v) ∙ keeps) in
     let less = one_subtracted s.totals u (omega (arith, (slot_has s.slots d u of).0, on.shape.slots, on.shape.totals)) (driver_positive s v d u on keeps of drained) t in
@@ -335,7 +336,7 @@ total_next log s g e r h t n on (JoinsKeeper id m u at of may) is known =
     as_much log s e g r h t n (λ c. refl) (joined_much log s id m u t n on at of may is known) (known.totals.total t n is)
 total_next log s g e r h t n on (SubsKept v d u keeps of may) is known =
     let was = vacated_next log v t n (occupant t log) is in
-    as_much log s e g r h t n (λ c. was.1 (word_collected t c log)) (gave_up_much log s v d u t n on keeps of (and_parts _ (is_drained s v) may).1 was.0 known) (known.totals.total t n was.0)
+    as_much log s e g r h t n (λ c. was.1 (word_collected t c log)) (gave_up_much log s v d u t n on keeps of (and_parts _ (Events.is_drained s v) may).1 was.0 known) (known.totals.total t n was.0)
 total_next log s g e r h t n on (Vacates v may) is known =
     let was = vacated_next log v t n (occupant t log) is in
     untouched log s e r h t n (λ c. was.1 (word_collected t c log)) refl (known.totals.total t n was.0)

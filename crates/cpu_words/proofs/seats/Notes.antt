@@ -5,7 +5,9 @@ use mathlib.Core.List.{IsPrefix}
 use Rattle.atomic_table.specs.Table.{Splits, Joins}
 use Rattle.cpu_words.specs.Types.{Change, Settings, Event, Tell, Hear, Done, Rest}
 use Rattle.protocol.specs.Common.{State, seen_at, step}
-use Rattle.cpu_words.specs.Common.{CpuView, KeeperView, Logged, View, Keeper, Cpu, Note, Spent, cpu_view, keeper_view, depth_of, CpuShown, KeeperShown, Shown, cpu_of, keeper_of, note_of, Sits, reference_to, Good, by_number, did, log_item, log_of_events, Makes, SplitsBy, CpuMay, SplitsOn, JoinsOn, the_cpu, who, LoggedRuled, logged_after_split, known_log_of, whole_log, fresh, logged_with_note, spent_seat, tells_pass, tells_history, told_by_cpu, no_teller, IsIdle, as_before, pass_told, history_told, with_note, keeper_with_note, beside_cpu, beside_keeper, HasHeard, KeeperHasHeard, CpuHears, section_of, head_word, index}
+use Rattle.cpu_words.specs.Common.{CpuView, KeeperView, Logged, View, Keeper, Cpu, Note, Spent, cpu_view, keeper_view, depth_of, CpuShown, KeeperShown, Shown, cpu_of, keeper_of, note_of, Sits, reference_to, Good, by_number, did, log_item, log_of_events, Makes, SplitsBy, CpuMay, SplitsOn, JoinsOn, IsIdle, section_of, head_word, index}
+use Rattle.cpu_words.specs.Logs
+use Rattle.cpu_words.specs.Seats
 use Rattle.std.proofs.lemmas.List.{append-nil}
 use Rattle.cpu_words.proofs.shown.Showing.{shows_split, shows_join, was_there, goes_to}
 use Rattle.cpu_words.proofs.logs.Logs.{tells_known, tells_whole, seat_cut, seat_with_note, names_nobody, names_cpu}
@@ -52,22 +54,22 @@ keeper_tells k may g good had =
 -- the same of a seat
 
 pub cpu_splits : (z : Settings) (i : ℕ) (l : Logged) (x : CpuView) (c : ℕ) → l ≡ record l { view = Cpu (cpu_of l.view) } → l.ended ≡ false → cpu_of l.view ≡ x → x.id ≡ c → IsIdle x
-    → Splits (LoggedRuled z) i l (logged_after_split as_before tells_pass l) (fresh pass_told known_log_of told_by_cpu l)
-cpu_splits z i l x c is going view id idle = seat_cut z i l (Cpu x) as_before pass_told tells_pass known_log_of told_by_cpu (did (Tell (Some c)) Done)
-    (is ∙ ap (λ (u : CpuView). record l { view = Cpu u }) view) going tt (ap the_cpu (sym id), tt) (refl, tt) (refl, tt) (λ k. did (Tell (Some (id k))) Done) (tells_known (record l { view = Cpu x }) (did (Tell (Some c)) Done))
+    → Splits (Logs.LoggedRuled z) i l (Logs.logged_after_split Seats.as_before Logs.tells_pass l) (Logs.fresh Seats.pass_told Logs.known_log_of Logs.told_by_cpu l)
+cpu_splits z i l x c is going view id idle = seat_cut z i l (Cpu x) Seats.as_before Seats.pass_told Logs.tells_pass Logs.known_log_of Logs.told_by_cpu (did (Tell (Some c)) Done)
+    (is ∙ ap (λ (u : CpuView). record l { view = Cpu u }) view) going tt (ap Logs.the_cpu (sym id), tt) (refl, tt) (refl, tt) (λ k. did (Tell (Some (id k))) Done) (tells_known (record l { view = Cpu x }) (did (Tell (Some c)) Done))
     (names_cpu l x (log_item (Tell (Some c)) Done)) (splits z i (Tell (Some c)) (Cpu x) x.pass (cpu_tells x c id idle))
 
-pub cpu_splits_by : (v a : View) (x : CpuView) (c : ℕ) → cpu_of v ≡ x → a ≡ pass_told v → x.id ≡ c → IsIdle x → SplitsBy (Tell (Some c)) (Cpu x) (Cpu x) (Note (note_of a))
+pub cpu_splits_by : (v a : View) (x : CpuView) (c : ℕ) → cpu_of v ≡ x → a ≡ Seats.pass_told v → x.id ≡ c → IsIdle x → SplitsBy (Tell (Some c)) (Cpu x) (Cpu x) (Note (note_of a))
 cpu_splits_by v a x c view right id idle =
     subst (λ h. SplitsBy (Tell (Some c)) (Cpu x) (Cpu x) (Note h)) (sym (ap note_of right ∙ ap (λ (u : CpuView). u.pass) view)) (tells_by (Tell (Some c)) (Cpu x) x.pass (cpu_tells x c id idle))
 
 pub keeper_splits : (z : Settings) (i : ℕ) (l : Logged) (k : KeeperView) → l ≡ record l { view = Keeper (keeper_of l.view) } → l.ended ≡ false → keeper_of l.view ≡ k → k.due ≡ Rest
-    → Splits (LoggedRuled z) i l (logged_after_split as_before tells_history l) (fresh history_told (whole_log tells_history) no_teller l)
-keeper_splits z i l k is going view may = seat_cut z i l (Keeper k) as_before history_told tells_history (whole_log tells_history) no_teller (did (Tell None) Done)
+    → Splits (Logs.LoggedRuled z) i l (Logs.logged_after_split Seats.as_before Logs.tells_history l) (Logs.fresh Seats.history_told (Logs.whole_log Logs.tells_history) Logs.no_teller l)
+keeper_splits z i l k is going view may = seat_cut z i l (Keeper k) Seats.as_before Seats.history_told Logs.tells_history (Logs.whole_log Logs.tells_history) Logs.no_teller (did (Tell None) Done)
     (is ∙ ap (λ (u : KeeperView). record l { view = Keeper u }) view) going tt (refl, tt) (refl, tt) (refl, tt) refl (tells_whole (record l { view = Keeper k }) (did (Tell None) Done) tt)
     (names_nobody (record l { view = Keeper k }) (did (Tell None) Done)) (splits z i (Tell None) (Keeper k) k.history (keeper_tells k may))
 
-pub keeper_splits_by : (v a : View) (k : KeeperView) → keeper_of v ≡ k → a ≡ history_told v → k.due ≡ Rest → SplitsBy (Tell None) (Keeper k) (Keeper k) (Note (note_of a))
+pub keeper_splits_by : (v a : View) (k : KeeperView) → keeper_of v ≡ k → a ≡ Seats.history_told v → k.due ≡ Rest → SplitsBy (Tell None) (Keeper k) (Keeper k) (Note (note_of a))
 keeper_splits_by v a k view right may =
     let p : note_of a ≡ k.history = ap note_of right ∙ ap (λ (u : KeeperView). u.history) view in
     subst (λ h. SplitsBy (Tell None) (Keeper k) (Keeper k) (Note h)) (sym p) (tells_by (Tell None) (Keeper k) k.history (keeper_tells k may))
@@ -78,7 +80,7 @@ keeper_splits_by v a k view right may =
 pub record Beside (v both : View) (h : List Change) : Type 0 where
   pub sits : (seat : ℕ → ℕ) (i : ℕ) → Sits seat i v → Sits seat i both
   pub shown : (g : State) → Shown g v → IsPrefix h g.history → Shown g both
-  pub owner : who both ≡ who v
+  pub owner : Logs.who both ≡ Logs.who v
   pub references : (n : ℕ) → reference_to n both ≡ reference_to n v
 
 joins : (z : Settings) (i o : ℕ) (v both : View) (h : List Change) → Beside v both h → JoinsOn z i v o (Note h) both Spent []
@@ -103,18 +105,18 @@ joins z i o v both h beside s r at apart there =
       };
     }
 
-cpu_beside : (x : CpuView) (h : List Change) → Beside (Cpu x) (Cpu (with_note x h)) h
+cpu_beside : (x : CpuView) (h : List Change) → Beside (Cpu x) (Cpu (Seats.with_note x h)) h
 cpu_beside x h = record {
   sits = λ seat i here. here;
-  shown = λ g had told. assumption (ap (λ (v : CpuView). with_note v h) had.is, told, had);
+  shown = λ g had told. assumption (ap (λ (v : CpuView). Seats.with_note v h) had.is, told, had);
   owner = refl;
   references = λ n. refl;
 }
 
-keeper_beside : (k : KeeperView) (h : List Change) → Beside (Keeper k) (Keeper (keeper_with_note k h)) h
+keeper_beside : (k : KeeperView) (h : List Change) → Beside (Keeper k) (Keeper (Seats.keeper_with_note k h)) h
 keeper_beside k h = record {
   sits = λ seat i here. here;
-  shown = λ g had told. assumption (ap (λ (v : KeeperView). keeper_with_note v h) had.is, told, had);
+  shown = λ g had told. assumption (ap (λ (v : KeeperView). Seats.keeper_with_note v h) had.is, told, had);
   owner = refl;
   references = λ n. refl;
 }
@@ -123,19 +125,19 @@ keeper_beside k h = record {
 
 pub cpu_joins : (z : Settings) (i o : ℕ) (l m : Logged) → l ≡ record l { view = Cpu (cpu_of l.view) } → m ≡ record m { view = Note (note_of m.view) }
     → l.ended ≡ false → m.ended ≡ false
-    → Joins (LoggedRuled z) i l o m (logged_with_note beside_cpu l m) spent_seat
-cpu_joins z i o l m is that going other = seat_with_note z i o l m (Cpu (cpu_of l.view)) (Note (note_of m.view)) beside_cpu is that going other tt
-    (joins z i o (Cpu (cpu_of l.view)) (beside_cpu (Cpu (cpu_of l.view)) (Note (note_of m.view))) (note_of m.view) (cpu_beside (cpu_of l.view) (note_of m.view)))
+    → Joins (Logs.LoggedRuled z) i l o m (Logs.logged_with_note Seats.beside_cpu l m) Logs.spent_seat
+cpu_joins z i o l m is that going other = seat_with_note z i o l m (Cpu (cpu_of l.view)) (Note (note_of m.view)) Seats.beside_cpu is that going other tt
+    (joins z i o (Cpu (cpu_of l.view)) (Seats.beside_cpu (Cpu (cpu_of l.view)) (Note (note_of m.view))) (note_of m.view) (cpu_beside (cpu_of l.view) (note_of m.view)))
 
 pub keeper_joins : (z : Settings) (i o : ℕ) (l m : Logged) → l ≡ record l { view = Keeper (keeper_of l.view) } → m ≡ record m { view = Note (note_of m.view) }
     → l.ended ≡ false → m.ended ≡ false
-    → Joins (LoggedRuled z) i l o m (logged_with_note beside_keeper l m) spent_seat
-keeper_joins z i o l m is that going other = seat_with_note z i o l m (Keeper (keeper_of l.view)) (Note (note_of m.view)) beside_keeper is that going other tt
-    (joins z i o (Keeper (keeper_of l.view)) (beside_keeper (Keeper (keeper_of l.view)) (Note (note_of m.view))) (note_of m.view) (keeper_beside (keeper_of l.view) (note_of m.view)))
+    → Joins (Logs.LoggedRuled z) i l o m (Logs.logged_with_note Seats.beside_keeper l m) Logs.spent_seat
+keeper_joins z i o l m is that going other = seat_with_note z i o l m (Keeper (keeper_of l.view)) (Note (note_of m.view)) Seats.beside_keeper is that going other tt
+    (joins z i o (Keeper (keeper_of l.view)) (Seats.beside_keeper (Keeper (keeper_of l.view)) (Note (note_of m.view))) (note_of m.view) (keeper_beside (keeper_of l.view) (note_of m.view)))
 
 -- The load that hears
 
-pub hear_may : (z : Settings) (x : CpuView) (c : ℕ) → x.id ≡ c → IsIdle x → CpuDoes z x (section_of c) (λ n. n) (Hear (Some c)) (λ _. Done) (λ v _ y. HasHeard v y)
+pub hear_may : (z : Settings) (x : CpuView) (c : ℕ) → x.id ≡ c → IsIdle x → CpuDoes z x (section_of c) (λ n. n) (Hear (Some c)) (λ _. Done) (λ v _ y. Seats.HasHeard v y)
 hear_may z x c id idle = rw (← id)
     (λ s r i at fits.
     let g = r.g in
@@ -158,10 +160,10 @@ hear_may z x c id idle = rw (← id)
     (Cpu y, done.0, (refl, (done.1, ((subst (IsPrefix x.noted_pass) (sym passes) had.noted_pass), longer, change)))))
 
 -- at the place of its section word
-pub own_hear_may : (z : Settings) (x : CpuView) (c i : ℕ) → x.id ≡ c → i ≡ index z (section_of c) → IsIdle x → CpuMay z x i (λ n. n) (λ n. did (Hear (Some x.id)) Done) (λ v n y. CpuHears v y)
+pub own_hear_may : (z : Settings) (x : CpuView) (c i : ℕ) → x.id ≡ c → i ≡ index z (section_of c) → IsIdle x → CpuMay z x i (λ n. n) (λ n. did (Hear (Some x.id)) Done) (λ v n y. Seats.CpuHears v y)
 own_hear_may z x c i id place idle = rw (place, ← id) (hear_may z x x.id refl idle)
 
-pub hear_keeper_may : (z : Settings) (k : KeeperView) → k.due ≡ Rest → KeeperDoes z k head_word (λ n. n) (Hear None) (λ _. Done) (λ v _ l. KeeperHasHeard v l)
+pub hear_keeper_may : (z : Settings) (k : KeeperView) → k.due ≡ Rest → KeeperDoes z k head_word (λ n. n) (Hear None) (λ _. Done) (λ v _ l. Seats.KeeperHasHeard v l)
 hear_keeper_may z k may s r i at fits =
     let g = r.g in
     let had : KeeperShown g k = (r.shows.fits i (Keeper k) at).1 in
@@ -173,16 +175,16 @@ hear_keeper_may z k may s r i at fits =
 
 -- as a note is laid beside it a view stays idle, and the load after it is the CPU's own
 
-pub laid_idle : (x y : CpuView) (h : List Change) → y ≡ with_note x h → IsIdle x → IsIdle y
+pub laid_idle : (x y : CpuView) (h : List Change) → y ≡ Seats.with_note x h → IsIdle x → IsIdle y
 laid_idle x y h laid idle = record { search = ap (λ (v : CpuView). v.search) laid ∙ idle.search; hand = ap (λ (v : CpuView). v.hand) laid ∙ idle.hand }
 
-pub heard_event : (x y w : CpuView) (h : List Change) (c : ℕ) → y ≡ with_note x h → x.id ≡ c → Makes (Hear (Some y.id)) Done (Cpu y) (Cpu w) → Makes (Hear (Some c)) Done (Cpu (with_note x h)) (Cpu w)
-heard_event x y w h c laid id made = subst (λ (d : ℕ). Makes (Hear (Some d)) Done (Cpu (with_note x h)) (Cpu w)) id (subst (λ (v : CpuView). Makes (Hear (Some v.id)) Done (Cpu v) (Cpu w)) laid made)
+pub heard_event : (x y w : CpuView) (h : List Change) (c : ℕ) → y ≡ Seats.with_note x h → x.id ≡ c → Makes (Hear (Some y.id)) Done (Cpu y) (Cpu w) → Makes (Hear (Some c)) Done (Cpu (Seats.with_note x h)) (Cpu w)
+heard_event x y w h c laid id made = subst (λ (d : ℕ). Makes (Hear (Some d)) Done (Cpu (Seats.with_note x h)) (Cpu w)) id (subst (λ (v : CpuView). Makes (Hear (Some v.id)) Done (Cpu v) (Cpu w)) laid made)
 
 -- what was heard is what the note told
 
-pub cpu_heard : (x y w : CpuView) (h : List Change) → y ≡ with_note x h → HasHeard y w → IsPrefix h w.pass × IsPrefix x.pass w.pass × (w ≡ record x { pass = w.pass; noted_pass = h })
-cpu_heard x y w h logged_with_note heard = subst (λ v. HasHeard v w) logged_with_note heard
+pub cpu_heard : (x y w : CpuView) (h : List Change) → y ≡ Seats.with_note x h → Seats.HasHeard y w → IsPrefix h w.pass × IsPrefix x.pass w.pass × (w ≡ record x { pass = w.pass; noted_pass = h })
+cpu_heard x y w h laid heard = subst (λ v. Seats.HasHeard v w) laid heard
 
-pub keeper_heard : (k l w : KeeperView) (h : List Change) → l ≡ keeper_with_note k h → KeeperHasHeard l w → IsPrefix h w.history × (w ≡ keeper_with_note k h)
-keeper_heard k l w h logged_with_note heard = subst (λ v. KeeperHasHeard v w) logged_with_note heard
+pub keeper_heard : (k l w : KeeperView) (h : List Change) → l ≡ Seats.keeper_with_note k h → Seats.KeeperHasHeard l w → IsPrefix h w.history × (w ≡ Seats.keeper_with_note k h)
+keeper_heard k l w h laid heard = subst (λ v. Seats.KeeperHasHeard v w) laid heard

@@ -18,8 +18,11 @@ use Rattle.protocol.proofs.Cells.{get_or_all}
 use Rattle.protocol.proofs.keeps.MarkKeeps.{cell_all, rows_all}
 use Rattle.protocol.proofs.keeps.Keeping.{opening_holds, step_holds}
 use Rattle.protocol.proofs.Occupied.{not_vacant}
-use Rattle.cpu_words.specs.Common.{CpuView, Logged, View, Spot, section_of, passive_of, count_of, head_word, live_of, next_of, record_of, total_of, index, IsSpot, word_at, Seated, new_keeper, first_view, Shown, Sits, Good, Ruled, IsStanding, Knows, HasItsSections, LoggedRuled, AreStillThere, first_logged, HasComeIf, AreOpening, AreSeats, cpu_seat, KeeperView, Keeper, Cpu, SameHand, cpu_view, new_cpu, CpuShown, KeeperShown, cpu_of, keeper_of, ShowsViews, IsFresh, did, SplitsBy, SplitsOn, MaySeat, one_seated, with_cpu_seated, next_seat, the_cpu, logged_after_split, no_log, no_teller, fresh, seats_next, keeper_with, IsShownAs, IsShown, Makes, SectionMayHold, IsShownCpu, HasWholePass}
+use Rattle.cpu_words.specs.Common.{CpuView, Logged, View, Seated, new_keeper, first_view, Shown, Sits, Good, Ruled, KeeperView, Keeper, Cpu, SameHand, cpu_view, new_cpu, CpuShown, KeeperShown, cpu_of, keeper_of, ShowsViews, IsFresh, did, SplitsBy, SplitsOn, IsShownAs, IsShown, Makes, SectionMayHold, IsShownCpu, HasWholePass}
 use Rattle.cpu_words.specs.declared.view.InHand.TheVariants.{Empty as NoEntry}
+use Rattle.cpu_words.specs.Seats as specs
+use Rattle.cpu_words.specs.Logs
+use Rattle.cpu_words.specs.Spots
 use Rattle.cpu_words.proofs.shown.Placing.{below_size, same_spot, agrees_same}
 use Rattle.cpu_words.proofs.logs.Told.{no_act}
 use Rattle.cpu_words.proofs.shown.Showing.{SeatsWith, shows_split, goes_to}
@@ -53,30 +56,30 @@ no_word k = refl
 
 -- no word but a total is a total
 
-abbrev IsOther : Spot → Type 0
-IsOther (total_of t) = ⊥
+abbrev IsOther : Spots.Spot → Type 0
+IsOther (Spots.total_of t) = ⊥
 IsOther q = Unit {0}
 
-no_total : (p : Spot) (t : ℕ) → IsOther p → p ≡ total_of t → ⊥
+no_total : (p : Spots.Spot) (t : ℕ) → IsOther p → p ≡ Spots.total_of t → ⊥
 no_total p t other same = subst IsOther same other
 
 -- a total is at the place of no other word
-apart : (z : Settings) (p : Spot) → IsSpot z p → ((t : ℕ) → p ≡ total_of t → ⊥) → (t : ℕ) → t < z.slots → index z (total_of t) ≡ index z p → ⊥
-apart z p here other t lt same = other t (same_spot z (total_of t) p lt here (sym same))
+apart : (z : Settings) (p : Spots.Spot) → Spots.IsSpot z p → ((t : ℕ) → p ≡ Spots.total_of t → ⊥) → (t : ℕ) → t < z.slots → Spots.index z (Spots.total_of t) ≡ Spots.index z p → ⊥
+apart z p here other t lt same = other t (same_spot z (Spots.total_of t) p lt here (sym same))
 
-zero_at : (z : Settings) (words : List ℕ) → AreOpening z words → (p : Spot) → IsSpot z p → ((t : ℕ) → p ≡ total_of t → ⊥) → slice_index words (index z p) ≡ 0
-zero_at z words are p here other = are.unused (index z p) (below_size z p here) (apart z p here other)
+zero_at : (z : Settings) (words : List ℕ) → specs.AreOpening z words → (p : Spots.Spot) → Spots.IsSpot z p → ((t : ℕ) → p ≡ Spots.total_of t → ⊥) → slice_index words (Spots.index z p) ≡ 0
+zero_at z words are p here other = are.unused (Spots.index z p) (below_size z p here) (apart z p here other)
 
-first_words : (z : Settings) (words : List ℕ) → AreOpening z words → (p : Spot) → IsSpot z p → slice_index words (index z p) ≡ word_at (opening z) p
-first_words z words are (section_of c) here = zero_at z words are (section_of c) here (λ t e. no_total (section_of c) t tt e) ∙ sym (get_or_all {X = ℕ} z.cpus 0 c)
-first_words z words are (passive_of c t) here = zero_at z words are (passive_of c t) here (λ u e. no_total (passive_of c t) u tt e) ∙ sym (cell_all {X = ℕ} z.slots MOST_CPUS 0 t c)
-first_words z words are (count_of c t) here = zero_at z words are (count_of c t) here (λ u e. no_total (count_of c t) u tt e) ∙ sym (cell_all {X = ℕ} z.slots MOST_CPUS 0 t c)
-first_words z words are head_word here = zero_at z words are head_word here (λ u e. no_total head_word u tt e)
-first_words z words are (live_of t) here = zero_at z words are (live_of t) here (λ u e. no_total (live_of t) u tt e) ∙ sym (get_or_all {X = ℕ} z.slots 0 t)
-first_words z words are (next_of t) here = zero_at z words are (next_of t) here (λ u e. no_total (next_of t) u tt e) ∙ sym (get_or_all {X = ℕ} z.slots 0 t)
-first_words z words are (record_of t k) here =
-    zero_at z words are (record_of t k) here (λ u e. no_total (record_of t k) u tt e) ∙ sym (ap (λ (r : RecordWords). word r k) (get_or_all z.slots no_words t) ∙ no_word k)
-first_words z words are (total_of t) here = are.totals t here ∙ sym (get_or-replicate z.slots t bias 0 here)
+first_words : (z : Settings) (words : List ℕ) → specs.AreOpening z words → (p : Spots.Spot) → Spots.IsSpot z p → slice_index words (Spots.index z p) ≡ Spots.word_at (opening z) p
+first_words z words are (Spots.section_of c) here = zero_at z words are (Spots.section_of c) here (λ t e. no_total (Spots.section_of c) t tt e) ∙ sym (get_or_all {X = ℕ} z.cpus 0 c)
+first_words z words are (Spots.passive_of c t) here = zero_at z words are (Spots.passive_of c t) here (λ u e. no_total (Spots.passive_of c t) u tt e) ∙ sym (cell_all {X = ℕ} z.slots MOST_CPUS 0 t c)
+first_words z words are (Spots.count_of c t) here = zero_at z words are (Spots.count_of c t) here (λ u e. no_total (Spots.count_of c t) u tt e) ∙ sym (cell_all {X = ℕ} z.slots MOST_CPUS 0 t c)
+first_words z words are Spots.head_word here = zero_at z words are Spots.head_word here (λ u e. no_total Spots.head_word u tt e)
+first_words z words are (Spots.live_of t) here = zero_at z words are (Spots.live_of t) here (λ u e. no_total (Spots.live_of t) u tt e) ∙ sym (get_or_all {X = ℕ} z.slots 0 t)
+first_words z words are (Spots.next_of t) here = zero_at z words are (Spots.next_of t) here (λ u e. no_total (Spots.next_of t) u tt e) ∙ sym (get_or_all {X = ℕ} z.slots 0 t)
+first_words z words are (Spots.record_of t k) here =
+    zero_at z words are (Spots.record_of t k) here (λ u e. no_total (Spots.record_of t k) u tt e) ∙ sym (ap (λ (r : RecordWords). word r k) (get_or_all z.slots no_words t) ∙ no_word k)
+first_words z words are (Spots.total_of t) here = are.totals t here ∙ sym (get_or-replicate z.slots t bias 0 here)
 
 -- the keeper's view at the start
 
@@ -99,44 +102,44 @@ first_alone : {X : Type 0} (a : X) (P : ℕ → X → Type 0) → P 0 a → (i :
 first_alone a P here zero b e = subst (P 0) (some-injective _ _ e) here
 first_alone a P here (suc i) b e = absurd (some-ne-none b (sym e))
 
-opens_without_logs : (z : Settings) (words : List ℕ) → IsTrue (are_fit z) → AreOpening z words → Ruled z (opening_table words [] (first_view z))
+opens_without_logs : (z : Settings) (words : List ℕ) → IsTrue (are_fit z) → specs.AreOpening z words → Ruled z (opening_table words [] (first_view z))
 opens_without_logs z words fit are = record {
   g = opening z;
   seat = λ _. 0;
   settings = refl;
   good = first_good z fit;
   reached = record { events = []; run = refl; made = refl };
-  words = record { size = are.size; settings = refl; at = first_words z words are; unused = λ i free. are.unused i free.0 (λ t lt same. free.1 (total_of t) lt same) };
+  words = record { size = are.size; settings = refl; at = first_words z words are; unused = λ i free. are.unused i free.0 (λ t lt same. free.1 (Spots.total_of t) lt same) };
   shows = record { fits = first_alone (first_view z) (λ i v. Sits (λ _. 0) i v × Shown (opening z) v) (refl, first_shown z); each = record { keeper = (new_keeper z, refl); cpus = λ c lt. absurd (omega (arith, lt)) }; references = λ n. refl };
 }
 
 -- nobody has done anything
-pub opens : (z : Settings) (words : List ℕ) → IsTrue (are_fit z) → AreOpening z words → LoggedRuled z (opening_table words [] (first_logged z))
+pub opens : (z : Settings) (words : List ℕ) → IsTrue (are_fit z) → specs.AreOpening z words → Logs.LoggedRuled z (opening_table words [] (Logs.first_logged z))
 unfolding opens_without_logs
 opens z words fit are = record {
   run = opens_without_logs z words fit are;
   acts = [];
   are = refl;
   owners = tt;
-  logs = first_alone (first_logged z) (λ i l. IsStanding l.view → l.log ≡ []) (λ _. refl);
+  logs = first_alone (Logs.first_logged z) (λ i l. Logs.IsStanding l.view → l.log ≡ []) (λ _. refl);
   unseated = λ i le. refl;
-  known = first_alone (first_logged z) (λ i l. Knows l []) (([], refl), ([], refl));
+  known = first_alone (Logs.first_logged z) (λ i l. Logs.Knows l []) (([], refl), ([], refl));
   told = λ i d first rest is. absurd (no_act first rest (i, d) is);
-  tellers = first_alone (first_logged z) (λ i l. HasComeIf (λ _. 0) (opening z).seated [] l.teller) tt;
-  lists = first_alone (first_logged z) (λ i l. IsPrefix l.list []) ([], refl);
-  sections = first_alone (first_logged z) (λ i l. IsStanding l.view → HasItsSections i l) (λ _. record { lacks = []; are = refl; none = tt });
+  tellers = first_alone (Logs.first_logged z) (λ i l. Logs.HasComeIf (λ _. 0) (opening z).seated [] l.teller) tt;
+  lists = first_alone (Logs.first_logged z) (λ i l. IsPrefix l.list []) ([], refl);
+  sections = first_alone (Logs.first_logged z) (λ i l. Logs.IsStanding l.view → Logs.HasItsSections i l) (λ _. record { lacks = []; are = refl; none = tt });
   heard = λ i l at stands d first rest is hear. absurd (no_act first rest (i, d) is);
-  ends = first_alone (first_logged z) (λ i l. AreStillThere (first_logged z ∷ []) l.ends) (λ n e is. absurd (some-ne-none e (sym is)));
+  ends = first_alone (Logs.first_logged z) (λ i l. Logs.AreStillThere (Logs.first_logged z ∷ []) l.ends) (λ n e is. absurd (some-ne-none e (sym is)));
 }
 
 -- the seats of the first CPUs
 
-pub more_seats : (table : TableId) (z : Settings) (n : ℕ) (seats : List (Seated CpuView)) (new : Seated CpuView) → AreSeats table z n seats → new ≡ cpu_seat table z n
-    → AreSeats table z (n + 1) (seats ++ new ∷ [])
+pub more_seats : (table : TableId) (z : Settings) (n : ℕ) (seats : List (Seated CpuView)) (new : Seated CpuView) → specs.AreSeats table z n seats → new ≡ specs.cpu_seat table z n
+    → specs.AreSeats table z (n + 1) (seats ++ new ∷ [])
 more_seats table z n seats new are is =
     let size : length seats ≡ n = are.count in record {
       count = length-append seats (new ∷ []) ∙ ap (λ k. k + 1) size;
-      each = below_more _ n (λ c lt. at_longer seats (new ∷ []) c (cpu_seat table z c) (are.each c lt)) (at_last seats new n size ∙ ap some is);
+      each = below_more _ n (λ c lt. at_longer seats (new ∷ []) c (specs.cpu_seat table z c) (are.each c lt)) (at_last seats new n size ∙ ap some is);
     }
 
 -- A CPU gets its seat: the keeper's seat is cut in two, and the new view is shown since the CPU has made no step.
@@ -202,9 +205,9 @@ pub record Seats (g : State) (k : KeeperView) : Type 0 where
   pub made : step g (Seat g.seated) ≡ Some (record { state = one_more_seated g; reply = Done })
   pub good : Good (one_more_seated g)
   pub new : CpuShown (one_more_seated g) (new_cpu k.settings k.seated)
-  pub keeper : KeeperShown (one_more_seated g) (one_seated k)
+  pub keeper : KeeperShown (one_more_seated g) (specs.one_seated k)
 
-seats_of : (g : State) (k : KeeperView) → MaySeat k → Good g → KeeperShown g k → Seats g k
+seats_of : (g : State) (k : KeeperView) → specs.MaySeat k → Good g → KeeperShown g k → Seats g k
 seats_of g k may good had =
     let seen = seen_by_keeper g k good had in
     let left : k.seated < k.settings.cpus = may.left in
@@ -219,10 +222,10 @@ seats_of g k may good had =
       made = made;
       good = good_seated g good made;
       new = subst (λ (p : Settings × ℕ). CpuShown (one_more_seated g) (new_cpu p.0 p.1)) (λ n. (sym seen.settings n, sym number n)) (new_shown g good lt);
-      keeper = assumption (ap one_seated had.is, had);
+      keeper = assumption (ap specs.one_seated had.is, had);
     }
 
-pub seats_by : (k : KeeperView) → MaySeat k → SplitsBy (Seat k.seated) (Keeper k) (Keeper (one_seated k)) (Cpu (new_cpu k.settings k.seated))
+pub seats_by : (k : KeeperView) → specs.MaySeat k → SplitsBy (Seat k.seated) (Keeper k) (Keeper (specs.one_seated k)) (Cpu (new_cpu k.settings k.seated))
 seats_by k may g good had =
     let p = seats_of g k may good had in record {
       after = one_more_seated g;
@@ -261,13 +264,13 @@ shows_reseated g seat i views shows = record {
 }
 
 -- who is seated was so, or is the new CPU
-seats_one : (g : State) (seat : ℕ → ℕ) (i : ℕ) (k : KeeperView) → k.seated ≡ g.seated → SeatsWith g.seated (g.seated + 1) (seat_with seat g.seated i) i (next_seat (Keeper k))
+seats_one : (g : State) (seat : ℕ → ℕ) (i : ℕ) (k : KeeperView) → k.seated ≡ g.seated → SeatsWith g.seated (g.seated + 1) (seat_with seat g.seated i) i (specs.next_seat (Keeper k))
 seats_one g seat i k number c lt = ⊎_elim
-    (λ (same : c ≡ g.seated). inr (ap (λ b. cond b i (seat c)) (eq-eqb c g.seated same), ap the_cpu (number ∙ sym same)))
+    (λ (same : c ≡ g.seated). inr (ap (λ b. cond b i (seat c)) (eq-eqb c g.seated same), ap Logs.the_cpu (number ∙ sym same)))
     (λ (off : c ≢ g.seated). inl (omega (arith, lt, off)))
     (cases_eq c g.seated)
 
-splits : (z : Settings) (i : ℕ) (k : KeeperView) → MaySeat k → SplitsOn z i (Keeper k) (with_cpu_seated (Keeper k)) (next_seat (Keeper k)) (did (Seat k.seated) Done)
+splits : (z : Settings) (i : ℕ) (k : KeeperView) → specs.MaySeat k → SplitsOn z i (Keeper k) (specs.with_cpu_seated (Keeper k)) (specs.next_seat (Keeper k)) (did (Seat k.seated) Done)
 splits z i k may s r at =
     let g = r.g in
     let g' = one_more_seated g in
@@ -280,22 +283,22 @@ splits z i k may s r at =
     goes_to z s r g' seat' (Seat k.seated) Done _ _ (subst (λ c. step g (Seat c) ≡ Some (record { state = g'; reply = Done })) (sym p.number) p.made) refl p.good refl (omega arith)
     (λ c lt. ap (λ b. cond b far (r.seat c)) (ne_eqb c g.seated (λ same. omega (arith, lt, same))))
     (agrees_same z s.words g g' r.words refl (λ q _. beside_words g (g.seated + 1) g.locals g.due g.keeps q))
-    (shows_split g g' seat' s.views i (Keeper k) (with_cpu_seated (Keeper k)) (next_seat (Keeper k)) reseated at (beside_stays g (g.seated + 1) g.locals g.due g.keeps (omega arith) seat' i had.0)
+    (shows_split g g' seat' s.views i (Keeper k) (specs.with_cpu_seated (Keeper k)) (specs.next_seat (Keeper k)) reseated at (beside_stays g (g.seated + 1) g.locals g.due g.keeps (omega arith) seat' i had.0)
     (had.0, p.keeper) (here, p.new) (seats_one g r.seat far k p.number) refl (λ n. refl))
 
 -- the same of a seat, whose view is the keeper's
 
-pub seat_splits : (z : Settings) (i : ℕ) (l : Logged) (k : KeeperView) → l ≡ record l { view = Keeper (keeper_of l.view) } → l.ended ≡ false → keeper_of l.view ≡ k → MaySeat k
-    → Splits (LoggedRuled z) i l (logged_after_split with_cpu_seated seats_next l) (fresh next_seat no_log no_teller l)
-seat_splits z i l k is going view may = seat_cut z i l (Keeper k) with_cpu_seated next_seat seats_next no_log no_teller (did (Seat k.seated) Done)
+pub seat_splits : (z : Settings) (i : ℕ) (l : Logged) (k : KeeperView) → l ≡ record l { view = Keeper (keeper_of l.view) } → l.ended ≡ false → keeper_of l.view ≡ k → specs.MaySeat k
+    → Splits (Logs.LoggedRuled z) i l (Logs.logged_after_split specs.with_cpu_seated Logs.seats_next l) (Logs.fresh specs.next_seat Logs.no_log Logs.no_teller l)
+seat_splits z i l k is going view may = seat_cut z i l (Keeper k) specs.with_cpu_seated specs.next_seat Logs.seats_next Logs.no_log Logs.no_teller (did (Seat k.seated) Done)
     (is ∙ ap (λ (u : KeeperView). record l { view = Keeper u }) view) going tt (refl, tt) (refl, tt) (refl, tt) refl (tells_nothing (record l { view = Keeper k }) (did (Seat k.seated) Done))
     (names_nobody (record l { view = Keeper k }) (did (Seat k.seated) Done)) (splits z i k may)
 
-pub seat_splits_by : (v a b : View) (k : KeeperView) → keeper_of v ≡ k → a ≡ with_cpu_seated v → b ≡ next_seat v → MaySeat k
+pub seat_splits_by : (v a b : View) (k : KeeperView) → keeper_of v ≡ k → a ≡ specs.with_cpu_seated v → b ≡ specs.next_seat v → specs.MaySeat k
     → SplitsBy (Seat k.seated) (Keeper k) (Keeper (keeper_of a)) (Cpu (cpu_of b))
 seat_splits_by v a b k view left right may =
     let q : cpu_of b ≡ new_cpu k.settings k.seated = ap cpu_of right ∙ ap (λ (u : KeeperView). new_cpu u.settings u.seated) view in
-    subst (λ (w : KeeperView × CpuView). SplitsBy (Seat k.seated) (Keeper k) (Keeper w.0) (Cpu w.1)) (λ n. (sym (ap keeper_of left ∙ ap one_seated view) n, sym q n)) (seats_by k may)
+    subst (λ (w : KeeperView × CpuView). SplitsBy (Seat k.seated) (Keeper k) (Keeper w.0) (Cpu w.1)) (λ n. (sym (ap keeper_of left ∙ ap specs.one_seated view) n, sym q n)) (seats_by k may)
 
 -- Views that some good state shows: any after a step or a cut, and the keeper's at the start.
 
@@ -308,18 +311,18 @@ cut_is_shown by was =
     record { g = cut.after; good = cut.good_after; shown = cut.shown }
 
 -- the keeper has made no step but the seating of n CPUs
-pub seated_is_shown : (z : Settings) → IsTrue (are_fit z) → (n : ℕ) → n ≤ z.cpus → IsShown (keeper_with z n)
+pub seated_is_shown : (z : Settings) → IsTrue (are_fit z) → (n : ℕ) → n ≤ z.cpus → IsShown (specs.keeper_with z n)
 seated_is_shown z fit zero few = record { g = opening z; good = first_good z fit; shown = first_shown z }
 seated_is_shown z fit (suc n) few =
     let was = seated_is_shown z fit n (omega (arith, few)) in
-    subst (λ (m : ℕ). IsShown (keeper_with z m)) (add-one n) (cut_is_shown (seats_by (keeper_with z n) record { rest = refl; left = omega (arith, few) }) was)
+    subst (λ (m : ℕ). IsShown (specs.keeper_with z m)) (add-one n) (cut_is_shown (seats_by (specs.keeper_with z n) record { rest = refl; left = omega (arith, few) }) was)
 
 -- A CPU's view that some good state shows: a new seat's, and what such a view tells of its section and of the last found entry.
 
 pub new_cpu_is_shown : (z : Settings) → IsTrue (are_fit z) → (c : ℕ) → c < z.cpus → IsShownCpu (new_cpu z c)
 new_cpu_is_shown z fit c lt =
     let was = seated_is_shown z fit c (omega (arith, lt)) in
-    let seated = seats_by (keeper_with z c) record { rest = refl; left = lt } was.g was.good was.shown in
+    let seated = seats_by (specs.keeper_with z c) record { rest = refl; left = lt } was.g was.good was.shown in
     record { g = seated.after; good = seated.good_after; shown = seated.shown_right }
 
 -- only one state is left by an event that leaves this one

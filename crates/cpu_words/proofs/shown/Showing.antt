@@ -8,7 +8,7 @@ use lib.ListN.{get_elem?}
 use Rattle.atomic_table.proofs.Lists.{at_set, at_longer, at_last}
 use Rattle.cpu_words.specs.Types.{Settings, Event, Reply, Done, LocalPlace, Free, Standing, Lifted}
 use Rattle.protocol.specs.Common.{State, opening, Outcome, step, Run, run_of_events, empty_run, run_with_event, after, local_at, standing_of, one_if}
-use Rattle.protocol.proofs.counts.Sums.{none_at, one_at}
+use Rattle.protocol.proofs.counts.Sums.{one_other, one_self}
 use Rattle.cpu_words.specs.Common.{LogItem, View, Reached, Ruled, GoesOn, by_number, did, log_with, log_from, log_of_events, CpuView, KeeperView, Keeper, Cpu, Reference, Spent, Shown, Sits, reference_to, HaveViews, ShowsViews, Maker, the_keeper, the_cpu, another, who, Good, Spot, word_at, JoinsOn, number_of_id, reference_of, ReferenceView, is_to, Agrees}
 use Rattle.cpu_words.specs.Steps.{JoinMakes}
 use Rattle.cpu_words.proofs.shown.Placing.{agrees_same}
@@ -60,7 +60,7 @@ standing_place n (Free ∷ ps) some_one = let a = sum_by-cons (standing_of n) Fr
 standing_place n (Lifted c ∷ ps) some_one = let a = sum_by-cons (standing_of n) (Lifted c) ps in let p = standing_place n ps (omega arith) in (suc p.0, p.1)
 standing_place n (Standing m ∷ ps) some_one = ⊎_elim
     (λ (same : m ≡ n). (zero, ap Standing same))
-    (λ (off : m ≢ n). let a = sum_by-cons (standing_of n) (Standing m) ps in let b = none_at m n off in let p = standing_place n ps (omega arith) in (suc p.0, p.1))
+    (λ (off : m ≢ n). let a = sum_by-cons (standing_of n) (Standing m) ps in let b = one_other m n off in let p = standing_place n ps (omega arith) in (suc p.0, p.1))
     (cases_eq m n)
 
 -- The views of a table: how they are shown on as one of them changes, is cut in two, or is joined into another.
@@ -216,7 +216,7 @@ shows_join g g' seat views i v o u both shows at apart there stay mine seated sa
 pub reference_place : (g : State) (v : ReferenceView) → IsBacked g (Reference v) → (id : ℕ) × (local_at g.locals id ≡ Standing v.entry.number)
 reference_place g v backs =
     let n = v.entry.number in
-    let one : one_if (is_to n v.entry) ≡ 1 = one_at n n refl in
+    let one : one_if (is_to n v.entry) ≡ 1 = one_self n n refl in
     let some_one : one_if (is_to n v.entry) ≤ standing_in n g = backs n in
     standing_place n g.locals (omega arith)
 

@@ -58,8 +58,8 @@ pub fn unpublish(words: &Words, keeper: &mut KeeperSeat, slot: u8, before: Optio
     );
 }
 
-/// Puts the entry whose words the vacant slot `slot` has in the place of the live entry in `old`: the one link that leads to `old` is
-/// stored, and leads to `slot`. The old entry is retired, its own link stays as it is, and the snapshots of all CPUs are due for it.
+/// Links the entry whose words the vacant slot `slot` has instead of the live entry in `old`: the one
+/// link that leads to `old` is stored, and leads to `slot`. The old entry is retired, its own link stays as it is, and the snapshots of all CPUs are due for it.
 /// `before` is the slot of the live entry before it on the list, or none where it is the first.
 ///
 /// Conditions:

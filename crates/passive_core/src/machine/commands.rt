@@ -13,7 +13,7 @@ mod passive;
 mod perform;
 mod sections;
 
-ghost use Rattle.std.specs.Prelude.{◌≡◌, ◌<◌, IsSome, Some, false, true};
+ghost use Rattle.std.specs.Prelude.{◌≡◌, IsSome, Some, false, true};
 ghost use Rattle.passive_core.specs.Commands.{all_seated};
 ghost use Rattle.protocol.specs.Common.{narrow_step, grows, at_rest};
 

@@ -2,7 +2,7 @@
 
 ghost use Rattle.std.specs.Prelude.{◌≡◌, ◌<◌, ◌≤◌, ◌==◌, ◌&&◌, IsTrue, IfSome, length, take, position, slice_index_or, true};
 ghost use Rattle.passive_core.specs.Types.{StoreSlot, StoreNext, Publish, Unpublish, Republish, Live};
-ghost use Rattle.protocol.specs.Common.{may_write, with_word, kind_of, entry_if, entry_of, is_bias, are_unused, room_of, kept_at, keeps_rightly, is_prepared, may_publish, may_republish, names_lawfully, at_rest, row_at, Steps};
+ghost use Rattle.protocol.specs.Common.{may_write, with_word, kind_of, entry_of, is_bias, are_unused, room_of, kept_at, keeps_rightly, is_prepared, may_publish, may_republish, names_lawfully, at_rest, row_at, Steps};
 ghost use Rattle.protocol.specs.History.{rank_at};
 ghost use Rattle.registry_values.specs.Common.{is_taken, is_live_as, is_live, key_of, live_count, same_key, slot_before, leads_to, slot_at};
 ghost use Rattle.std.specs.List.{list_all, zip};
@@ -264,7 +264,7 @@ impl Core {
         Ok(Reply::Done)
     }
 
-    /// Where the entry with this number stands on the list.
+    /// Where the entry with this number is on the list.
     fn rank_at(&self, number: u64) -> u64
         requires above { 0 < number }
         requires within { number ≤ length self.now.history }

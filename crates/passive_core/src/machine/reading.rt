@@ -1,9 +1,9 @@
 //! The words and marks of a core, one at a time, and what their places are.
 
 ghost use Rattle.std.specs.Prelude.{◌≡◌, ◌<◌, ◌≤◌, ◌*◌, Some, None, IfSome, IsTrue, length, slice_index_or, []};
-ghost use Rattle.protocol.specs.Common.{is_idle, is_number, word, number_standing, Holds, at_rest, section_at, begin_at, depth_at, seen_at, found_at, hand_at, trying_at, search_at, passive_at, count_at, total_at, kept_at, mark_at, row_at, local_at};
+ghost use Rattle.protocol.specs.Common.{is_idle, word, number_standing, Holds, at_rest, section_at, begin_at, depth_at, seen_at, found_at, hand_at, trying_at, search_at, passive_at, count_at, total_at, kept_at, mark_at, row_at, local_at};
 ghost use Rattle.passive_core.specs.Types.{MOST_SECTIONS};
-ghost use Rattle.registry_values.specs.Common.{slot_of, has_number, is_retired, is_vacant, slot_at, have_passed, are_clear, are_collected, is_some_collected};
+ghost use Rattle.registry_values.specs.Common.{slot_of, has_number, is_retired, slot_at, have_passed, are_clear, are_collected, is_some_collected};
 
 use crate::machine::Core;
 use protocol::{Due, Hand, LocalPlace, RecordWords, Search};

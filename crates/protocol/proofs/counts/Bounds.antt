@@ -5,7 +5,7 @@ use Rattle.std.proofs.lemmas.Bool.{cases_lt, eqb-true, eq-eqb}
 use Rattle.protocol.specs.Types.{Entry, Settings, MOST_CPUS, Slot, Retired, Mark}
 use Rattle.registry_values.specs.Common.{bias, are_collected, slot_at, slot_of}
 use Rattle.protocol.specs.Common.{Hand, LocalPlace, Due, Rest, Adding, Subtracting, mark_at, count_at, total_at, is_bias, IsIn, IsCounting, CountsHold, held_at, addition_due_at, is_adding_at, greatest_limit, Empty, Giving, Back, Search, State, hand_at, found_at, kept_at, search_at, is_drained, Holds, SlotWithin}
-use Rattle.protocol.proofs.counts.Sums.{total_floor as floor_of, total_ceiling as ceiling_of, word_floor as word_floor_of, all_collected as all_of, one_at, lifted_within}
+use Rattle.protocol.proofs.counts.Sums.{total_floor as floor_of, total_ceiling as ceiling_of, word_floor as word_floor_of, all_collected as all_of, one_self, lifted_within}
 use Rattle.protocol.proofs.counts.Counts.{CountsFit, are_words, is_counting, moved}
 use Rattle.protocol.proofs.keeps.CountKeeps.{fit_of, hand_within, held_counting}
 use Rattle.protocol.proofs.keeps.Drivers.{kept_found}
@@ -56,7 +56,7 @@ module _ {z : Settings} {slots : List Slot} {marks : List (List Mark)} {counts n
   adding_fits t old e was is =
       let floor = total_floor t e is in
       let ceiling = total_ceiling on t e is in
-      let one : is_adding_at t due ≡ 1 = ap (is_adding_at t) was ∙ one_at t t refl in
+      let one : is_adding_at t due ≡ 1 = ap (is_adding_at t) was ∙ one_self t t refl in
       let word : addition_due_at t due ≡ old = ap (addition_due_at t) was ∙ ap (λ (b : Bool). cond b old 0) (eq-eqb t t refl) in
       (omega (arith, floor, one, word), omega (arith, ceiling, one, word))
 

@@ -7,7 +7,7 @@ use Rattle.protocol.specs.Common.{Hand, Empty, Taking, Giving, Back, LocalPlace,
 use Rattle.protocol.specs.Invariant
 use Rattle.registry_values.specs.Common.{are_fit, bias, no_mark, mark_after_collect, slot_at}
 use Rattle.registry_values.proofs.Fit.{ranges}
-use Rattle.protocol.proofs.counts.Sums.{one_at, none_at, standing_within, lifted_within, local_changed, hand_changed, kept_changed, local_added, AreWords, word_floor, counted_up, counted_down, added, subtracted, published, collected as word_collected}
+use Rattle.protocol.proofs.counts.Sums.{one_self, one_other, standing_within, lifted_within, local_changed, hand_changed, kept_changed, local_added, AreWords, word_floor, counted_up, counted_down, added, subtracted, published, collected as word_collected}
 use Rattle.protocol.proofs.Cells.{by_place, row_here, row_other, cell_here, cell_other, cell_cases, cell_in_new, cell_in_old, get_or_all, one_in, slot_here, slot_other, not_vacated, total_here, total_other}
 use Rattle.protocol.proofs.Occupied.{not_vacant, in_within}
 use Rattle.protocol.proofs.Either.{either}
@@ -56,8 +56,8 @@ moved {row} {row2} {total} {total2} {held} {held2} {adding} {adding2} {is_adding
 at_slot : (slots : List Slot) (t n : ℕ) (e : Entry) → IsIn e (slot_at slots t) → e.number ≡ n → ((u : ℕ) (f : Entry) → IsIn f (slot_at slots u) → f.number ≡ n → u ≡ t) → (u : ℕ) (f : Entry)
     → IsIn f (slot_at slots u) → Invariant.one_if (n == f.number) ≡ Invariant.one_if (t == u)
 at_slot slots t n e is number one u f in_ = by_place (λ (k : ℕ). IsIn f (slot_at slots k) → Invariant.one_if (n == f.number) ≡ Invariant.one_if (t == k)) t u
-    (λ here. one_at n f.number (sym number ∙ sym (ap (λ (g : Entry). g.number) (one_in e f (slot_at slots t) is here))) ∙ sym (one_at t t refl))
-    (λ off there. none_at n f.number (λ same. off (one u f there (sym same))) ∙ sym (none_at t u (λ same. off (sym same))))
+    (λ here. one_self n f.number (sym number ∙ sym (ap (λ (g : Entry). g.number) (one_in e f (slot_at slots t) is here))) ∙ sym (one_self t t refl))
+    (λ off there. one_other n f.number (λ same. off (one u f there (sym same))) ∙ sym (one_other t u (λ same. off (sym same))))
     in_
 
 -- Events that need no length or limit
@@ -199,9 +199,9 @@ module _ {z : Settings} {slots : List Slot} {marks : List (List Mark)} {counts n
       (λ u f in_. by_place (λ (k : ℕ). IsIn f (slot_at slots k) → Balances (get_or counts k []) (total_at (set totals t (total_at totals t - 1)) k) (Invariant.held_at locals hands keeps Rest f.number k) 0 0) t u
       (λ here. moved
       (subtracted (get_or counts t []) (total_at totals t) (Invariant.held_at locals hands keeps Rest f.number t) (are_words t f here)
-      (moved (on.balance t f here) refl refl (omega (arith, ap (Invariant.subtraction_due_at t) was, one_at t t refl)) (sym (ap (Invariant.addition_due_at t) was)) (sym (ap (Invariant.is_adding_at t) was))))
+      (moved (on.balance t f here) refl refl (omega (arith, ap (Invariant.subtraction_due_at t) was, one_self t t refl)) (sym (ap (Invariant.addition_due_at t) was)) (sym (ap (Invariant.is_adding_at t) was))))
       refl (total_here totals t (total_at totals t - 1) lt) refl refl refl)
-      (λ off there. moved (on.balance u f there) refl (total_other totals t (total_at totals t - 1) u off) (omega (arith, ap (Invariant.subtraction_due_at u) was, none_at t u (λ same. off (sym same))))
+      (λ off there. moved (on.balance u f there) refl (total_other totals t (total_at totals t - 1) u off) (omega (arith, ap (Invariant.subtraction_due_at u) was, one_other t u (λ same. off (sym same))))
       (sym (ap (Invariant.addition_due_at u) was)) (sym (ap (Invariant.is_adding_at u) was)))
       in_)
       (λ u vacant. total_other totals t (total_at totals t - 1) u (λ same. not_vacant e (slot_at slots t) (ap (slot_at slots) (sym same) ∙ vacant) is))
@@ -217,10 +217,10 @@ module _ {z : Settings} {slots : List Slot} {marks : List (List Mark)} {counts n
       (λ here. moved
       (added (get_or counts t []) (total_at totals t) (Invariant.held_at locals hands keeps Rest f.number t) old (are_words t f here)
       (moved (on.balance t f here) refl refl (omega (arith, ap (Invariant.subtraction_due_at t) was))
-      (sym (ap (Invariant.addition_due_at t) was ∙ ap (λ (b : Bool). cond b old 0) (eq-eqb t t refl))) (sym (ap (Invariant.is_adding_at t) was ∙ one_at t t refl))))
+      (sym (ap (Invariant.addition_due_at t) was ∙ ap (λ (b : Bool). cond b old 0) (eq-eqb t t refl))) (sym (ap (Invariant.is_adding_at t) was ∙ one_self t t refl))))
       refl (total_here totals t v lt) refl refl refl)
       (λ off there. moved (on.balance u f there) refl (total_other totals t v u off) (omega (arith, ap (Invariant.subtraction_due_at u) was))
-      (sym (ap (Invariant.addition_due_at u) was ∙ ap (λ (b : Bool). cond b old 0) (ne_eqb t u (λ same. off (sym same))))) (sym (ap (Invariant.is_adding_at u) was ∙ none_at t u (λ same. off (sym same)))))
+      (sym (ap (Invariant.addition_due_at u) was ∙ ap (λ (b : Bool). cond b old 0) (ne_eqb t u (λ same. off (sym same))))) (sym (ap (Invariant.is_adding_at u) was ∙ one_other t u (λ same. off (sym same)))))
       in_)
       (λ u vacant. total_other totals t v u (λ same. not_vacant e (slot_at slots t) (ap (slot_at slots) (sym same) ∙ vacant) is))
       (λ u d snap. absurd (let q : Rest ≡ Snapshots u d = snap in cc))
@@ -264,8 +264,8 @@ module _ {z : Settings} {slots : List Slot} {marks : List (List Mark)} {counts n
       let hl : c < length hands = omega (arith, lt, fit.hand_length) in
       recounted c t (count_at counts c t + 1) (count_at nets c t + 1) e (set hands c (Taking n)) locals lt is counting (omega (arith, was.0)) (omega arith) (omega (arith, less))
       (moved (counted_up (get_or counts t []) _ _ _ _ c (count_at counts c t) (omega (arith, cs.1, lt, fit.cpu_limit)) refl was.1 (on.balance t e is)) refl refl
-      (omega (arith, hand_changed e.number hands c Empty (Taking n) hl hand, one_at n e.number (sym number))) refl refl)
-      (λ u f off in_. omega (arith, hand_changed f.number hands c Empty (Taking n) hl hand, none_at n f.number (λ here. off (one u f in_ (sym here)))))
+      (omega (arith, hand_changed e.number hands c Empty (Taking n) hl hand, one_self n e.number (sym number))) refl refl)
+      (λ u f off in_. omega (arith, hand_changed f.number hands c Empty (Taking n) hl hand, one_other n f.number (λ here. off (one u f in_ (sym here)))))
 
   -- one less
   pub count_down : (c t n id : ℕ) (e : Entry) → c < z.cpus → IsIn e (slot_at slots t) → e.number ≡ n → ((u : ℕ) (f : Entry) → IsIn f (slot_at slots u) → f.number ≡ n → u ≡ t)
@@ -279,12 +279,12 @@ module _ {z : Settings} {slots : List Slot} {marks : List (List Mark)} {counts n
       let floor = word_floor (get_or counts t []) _ _ _ _ c (are_words t e is) (omega (arith, lt, fit.cpu_limit)) was.1 (on.balance t e is) in
       let far : 1 < count_at counts c t = omega (arith, floor) in
       let changed : Invariant.held_at locals hands keeps due e.number t ≡ Invariant.held_at (set locals id Free) (set hands c Empty) keeps due e.number t + 1
-      = omega (arith, hand_changed e.number hands c (Giving n id) Empty hl hand, local_changed e.number locals id (Lifted c) Free ll at, one_at n e.number (sym number)) in
+      = omega (arith, hand_changed e.number hands c (Giving n id) Empty hl hand, local_changed e.number locals id (Lifted c) Free ll at, one_self n e.number (sym number)) in
       recounted c t (count_at counts c t - 1) (count_at nets c t - 1) e (set hands c Empty) (set locals id Free) lt is counting (omega (arith, was.0)) (omega (arith, far))
       (omega (arith, on.limited c t e is))
       (counted_down (get_or counts t []) _ _ _ _ c (count_at counts c t) (omega (arith, cs.1, lt, fit.cpu_limit)) refl far (moved (on.balance t e is) refl refl (sym changed) refl refl))
       (λ u f off in_.
-      omega (arith, hand_changed f.number hands c (Giving n id) Empty hl hand, local_changed f.number locals id (Lifted c) Free ll at, none_at n f.number (λ here. off (one u f in_ (sym here)))))
+      omega (arith, hand_changed f.number hands c (Giving n id) Empty hl hand, local_changed f.number locals id (Lifted c) Free ll at, one_other n f.number (λ here. off (one u f in_ (sym here)))))
 
   -- a word is swapped for 0
   pub collect : (c t : ℕ) (e : Entry) → c < z.cpus → due ≡ Rest → slot_at slots t ≡ Retired e → (mark_at marks t c).collected ≡ false
@@ -315,9 +315,9 @@ module _ {z : Settings} {slots : List Slot} {marks : List (List Mark)} {counts n
             (λ here. moved
             (word_collected (get_or counts t []) (total_at totals t) (Invariant.held_at locals hands keeps (Adding t w) f.number t) c w cl refl was.1 (words.1 c)
             (moved (on.balance t f here) refl refl (omega (arith, ap (Invariant.subtraction_due_at t) rest)) (sym (ap (Invariant.addition_due_at t) rest)) (sym (ap (Invariant.is_adding_at t) rest))))
-            (row_here counts t c 0 cs.0) refl refl (ap (λ (b : Bool). cond b w 0) (eq-eqb t t refl)) (one_at t t refl))
+            (row_here counts t c 0 cs.0) refl refl (ap (λ (b : Bool). cond b w 0) (eq-eqb t t refl)) (one_self t t refl))
             (λ off there. moved (on.balance u f there) (row_other counts t c 0 u off) refl (omega (arith, ap (Invariant.subtraction_due_at u) rest))
-            (ap (λ (b : Bool). cond b w 0) (ne_eqb t u (λ here. off (sym here))) ∙ sym (ap (Invariant.addition_due_at u) rest)) (none_at t u (λ here. off (sym here)) ∙ sym (ap (Invariant.is_adding_at u) rest)))
+            (ap (λ (b : Bool). cond b w 0) (ne_eqb t u (λ here. off (sym here))) ∙ sym (ap (Invariant.addition_due_at u) rest)) (one_other t u (λ here. off (sym here)) ∙ sym (ap (Invariant.is_adding_at u) rest)))
             in_;
         vacant = on.vacant;
         fresh = λ j u d snap. absurd (let q : Adding t w ≡ Snapshots u d = snap in cc);
@@ -394,11 +394,11 @@ module _ {z : Settings} {slots : List Slot} {marks : List (List Mark)} {counts n
       (λ here.
       let same : n ≡ f.number = sym number ∙ sym (ap (λ (g : Entry). g.number) (one_in e f (slot_at slots u) is here)) in
       moved (subtracted (get_or counts u []) (total_at totals u) (Invariant.held_at locals hands (set keeps t None) due f.number u) (are_words u f here)
-      (moved (on.balance u f here) refl refl (omega (arith, kept_changed f.number keeps t (Some n) None lk kept, one_at n f.number same)) (sym (ap (Invariant.addition_due_at u) rest))
+      (moved (on.balance u f here) refl refl (omega (arith, kept_changed f.number keeps t (Some n) None lk kept, one_self n f.number same)) (sym (ap (Invariant.addition_due_at u) rest))
       (sym (ap (Invariant.is_adding_at u) rest))))
       refl (total_here totals u v lu) refl (ap (Invariant.addition_due_at u) rest) (ap (Invariant.is_adding_at u) rest))
       (λ off there. moved (on.balance x f there) refl (total_other totals u v x off)
-      (omega (arith, kept_changed f.number keeps t (Some n) None lk kept, none_at n f.number (λ same. off (one x f there (sym same))))) refl refl)
+      (omega (arith, kept_changed f.number keeps t (Some n) None lk kept, one_other n f.number (λ same. off (one x f there (sym same))))) refl refl)
       in_)
       (λ x vacant. total_other totals u v x (λ same. not_vacant e (slot_at slots u) (ap (slot_at slots) (sym same) ∙ vacant) is))
       (λ x d snap. (d, snap)))

@@ -50,11 +50,11 @@ pub is_used : (w : ℕ) → 0 < w → one_if_used w ≡ 1
 is_used w some = grind arith
 
 -- one at the same number, and none at another
-pub one_at : (m n : ℕ) → m ≡ n → one_if (m == n) ≡ 1
-one_at m n same = ap one_if (eq-eqb m n same)
+pub one_self : (m n : ℕ) → m ≡ n → one_if (m == n) ≡ 1
+one_self m n same = ap one_if (eq-eqb m n same)
 
-pub none_at : (m n : ℕ) → m ≢ n → one_if (m == n) ≡ 0
-none_at m n off = ap one_if (ne_eqb m n off)
+pub one_other : (m n : ℕ) → m ≢ n → one_if (m == n) ≡ 0
+one_other m n off = ap one_if (ne_eqb m n off)
 
 -- a place of a reference that isn't free is in the list
 pub local_within : (locals : List LocalPlace) (id : ℕ) (p : LocalPlace) → local_at locals id ≡ p → Free ≢ p → id < length locals
@@ -102,7 +102,7 @@ at_some : {X : Type 0} (f : X → ℕ) (xs : List X) (i : ℕ) (d x : X) → f d
 at_some f xs i d x none at some = grind (arith, get_or-le-sum_by, get_or_past)
 
 pub held_kept : (locals : List LocalPlace) (hands : List Hand) (keeps : List (Option ℕ)) (due : Due) (n t u : ℕ) → kept_at keeps u ≡ Some n → 0 < held_at locals hands keeps due n t
-held_kept locals hands keeps due n t u at = omega (arith, at_some (kept_of n) keeps u None (Some n) refl at (omega (arith, one_at n n refl)))
+held_kept locals hands keeps due n t u at = omega (arith, at_some (kept_of n) keeps u None (Some n) refl at (omega (arith, one_self n n refl)))
 
 -- What the events do to the balance of one slot, and how far its words and its total can go.
 
@@ -182,12 +182,6 @@ number_of (Taking n) = Some n
 number_of (Giving n id) = Some n
 number_of (Back n id) = Some n
 number_of (Trying t n) = None
-
-pub one_self : (m n : ℕ) → m ≡ n → one_if (m == n) ≡ 1
-one_self m n same = ap one_if (eq-eqb m n same)
-
-pub one_other : (m n : ℕ) → (m ≡ n → ⊥) → one_if (m == n) ≡ 0
-one_other m n off = ap one_if (ne_eqb m n off)
 
 -- a place of a list counts in its sum
 counted : {X : Type 0} (f : X → ℕ) (d : X) (xs : List X) (i : ℕ) → (get_or xs i d ≡ d → ⊥) → f (get_or xs i d) ≡ 1 → 1 ≤ sum_by f xs

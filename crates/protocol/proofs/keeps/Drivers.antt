@@ -98,7 +98,7 @@ kept_found h slots keeps t d u e show kept is at found =
 
 -- Keep
 
-is_driver_tells : (k : Kind) → is_driver k ≡ true → k ≡ Driver
+pub is_driver_tells : (k : Kind) → is_driver k ≡ true → k ≡ Driver
 is_driver_tells k test = grind arith
 
 pub driver_slot_tells : (x : Slot) → is_driver_slot x ≡ true → (e : Entry) × IsIn e x × (e.rec.kind ≡ Driver)

@@ -3,7 +3,8 @@ use Rattle.std.proofs.Common.{◌≡◌, ℕ, ◌-◌, inr, List, [], ◌∷◌,
 use Rattle.std.specs.Prelude.{is_none, nat_lt}
 use Rattle.std.specs.List.{list_all}
 use Rattle.std.proofs.lemmas.Bool.{and_parts, eqb-true}
-use Rattle.protocol.proofs.Made.{Made, Seats, Enters, Exits, Seeks, LoadsEnd, LoadsSlot, LoadsWord, LoadsLast, StoresRow, StoresCount, StoresLink, Publishes, Unpublishes, Republishes, Hears, Snaps, Looks, AddsPassive, SubsPassive, LooksPassive, made, each_event, Counts, Splits, Joins, CountsDown, FindsCollected, SplitsBack, Collects, AddsTotal, JoinsKeeper, SubsTotal, KeepsDriver, SubsKept, Vacates, Shows, Hides, Recalls, RecallsHead, Refinds, Tries, ConfirmsTry, TakesBack}
+use Rattle.protocol.proofs.Made.{Made, made, each_event, Seats, Enters, Exits, Seeks, LoadsEnd, LoadsSlot, LoadsWord, LoadsLast, Hears, AddsPassive, SubsPassive, Counts, Splits, Joins, CountsDown, FindsCollected, SplitsBack, Recalls, RecallsHead, Refinds, Tries, ConfirmsTry, TakesBack}
+use Rattle.protocol.proofs.Made.{StoresRow, StoresCount, StoresLink, Publishes, Unpublishes, Republishes, Snaps, Looks, LooksPassive, Collects, AddsTotal, JoinsKeeper, SubsTotal, KeepsDriver, SubsKept, Vacates, Shows, Hides}
 use Rattle.protocol.proofs.counts.Bounds.{bias_at, none_held_at_bias}
 use Rattle.protocol.proofs.keeps.CountKeeps.{collect_keeps, count_add_keeps, count_down_keeps, count_store_keeps, collected_keeps, fit_of, join_keeper_keeps, join_keeps, keep_keeps, only_slot, split_back_keeps, confirm_keeps, split_keeps, take_back_keeps, total_add_keeps, total_sub_keeps, try_keeps}
 use Rattle.protocol.proofs.counts.Counts as C
@@ -110,7 +111,7 @@ kept_sub_keeps s t d u on keeps of drained =
 pub opening_holds : (z : Settings) → IsTrue (are_fit z) → Holds (opening z)
 opening_holds z fit = M.opening_holds z fit (C.opening z) (references_opening z.cpus z.slots) (drivers_opening z.slots z.slots)
 
--- no clause speaks of the live words, but for their number
+-- no clause speaks of the live words, except of their number
 live_store_keeps : (s : State) (t v : ℕ) → Holds s → Holds (Events.after_live_store s t v)
 live_store_keeps s t v on = assumption (length-set s.lives t v ∙ on.shape.lives)
 

@@ -160,7 +160,7 @@ list_attach h slots head next e legal lt number link show list =
           (leads_attach h e (rank_at h f.number) (get_or next u 0) number (omega (arith, rank_low h legal f.number, lf.begun)) (list.links u f at))));
     }
 
--- an entry that a section may hold has its slot after the change c, by which e comes into its own
+-- an entry that a section may hold has its slot after the change c, which brings e into its own
 pub held_more : (h : List Change) (c : Change) (slots : List Slot) (begins : List (Option ℕ)) (e : Entry) → brought_by (Some c) ≡ Some e → e.slot < length slots → slot_at slots e.slot ≡ Vacant
     → HeldStay h slots begins → HeldStay (after_change h c) (set slots e.slot (Live e)) begins
 held_more h c slots begins e brings lt vacant held d b f is hold = either (attach_cases h c f hold.attached)

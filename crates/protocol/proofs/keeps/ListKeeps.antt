@@ -1,6 +1,6 @@
 -- The keeper's events on the list keep the invariant: stores to a vacant slot, Publish and Unpublish.
 use Rattle.std.proofs.Common.{Bool, List, None, Option, Some, [], ap, arith, false, get_or, get_or-set_other, get_or-set_same, inl, inr, length, length-set, ltb-true, not, refl, replicate, set, subst, suc, sym, true, ℕ, ◌+◌, ◌<◌, ◌∙◌, ◌≡◌, ◌≢◌, ◌≤◌}
-use Rattle.std.proofs.lemmas.Bool.{and_parts, cases_eq, eq-eqb, eqb-true, leb-true}
+use Rattle.std.proofs.lemmas.Bool.{and_parts, cases_eq, eqb-true, leb-true}
 use Rattle.std.proofs.lemmas.List.{set_past}
 use Rattle.std.proofs.lemmas.List.Folds.{list_any_at}
 use Rattle.std.proofs.lemmas.List.Sums.{sum_by-set}
@@ -13,7 +13,8 @@ use Rattle.protocol.specs.History.{rank_at}
 use Rattle.protocol.specs.Common.{after_change, AreRows, CountsHold, DriversKept, HasShape, Holds, IsIn, Leads, LinksStay, ListShows, ReferencesHold, RowsShow, SnapshotsStand, one_if, at_rest, State, kept_at, no_words, row_at, with_cell, Rest, RecordWords}
 use Rattle.protocol.specs.Events
 use Rattle.protocol.specs.Types.{MOST_CPUS, Attach, Detach, Entry, Key, Slot, Live, Retired, Vacant}
-use Rattle.registry_values.specs.Common.{key_of, is_live, is_taken, live_count, same_key, slot_before, slot_at, bias, no_mark}
+use Rattle.registry_values.specs.Common.{key_of, is_live, is_taken, live_count, slot_before, slot_at, bias, no_mark}
+use Rattle.registry_values.proofs.Slots.{key_same}
 use Rattle.registry_values.specs.Names.{are_key_words}
 use Rattle.protocol.proofs.Occupied.{not_vacant, is_vacant_tells, at_rest_tells}
 use Rattle.protocol.proofs.Either.{either}
@@ -50,12 +51,9 @@ pub record IsPublishable (s : State) (t : ℕ) (e : Entry) : Type 0 where
 pub may_publish_tells : (s : State) (t : ℕ) (e : Entry) → HasShape s → Events.may_publish s t e ≡ true → IsPublishable s t e
 may_publish_tells s t e shape may = grind (arith, and_parts, may_write_tells, eqb-true, false_from, leb-true)
 
-same_key_own : (k : Key) → same_key k k ≡ true
-same_key_own k = grind (arith, eq-eqb)
-
 -- a live entry with the key shows that it is taken
 pub taken_from : (key : Key) (slots : List Slot) (t : ℕ) (f : Entry) → slot_at slots t ≡ Live f → key_of f ≡ key → is_taken key slots ≡ true
-taken_from key slots t f at same = grind (arith, list_any_at, within_live, same_key_own)
+taken_from key slots t f at same = grind (arith, list_any_at, within_live, key_same)
 
 -- how many are live after a write
 pub live_count_set : (slots : List Slot) (t : ℕ) (x : Slot) → t < length slots → live_count (set slots t x) + one_if (is_live (slot_at slots t)) ≡ live_count slots + one_if (is_live x)

@@ -138,7 +138,7 @@ is_drained_tells s t on is =
     )
 
 -- a drained slot becomes vacant; what slots keep and their totals may change beside it
-abbrev vacated : State → ℕ → List ℕ → List (Option ℕ) → State
+abbrev pub vacated : State → ℕ → List ℕ → List (Option ℕ) → State
 vacated s t totals keeps = record s { totals = totals; slots = set s.slots t Vacant; keeps = keeps }
 
 pub vacated_keeps : (s : State) (t : ℕ) (totals : List ℕ) (keeps : List (Option ℕ)) → Holds s → Events.is_drained s t ≡ true → length totals ≡ length s.totals → length keeps ≡ length s.keeps
@@ -192,7 +192,7 @@ rows_all zero row size t lt = absurd (omega arith)
 rows_all (suc n) row size zero lt = size
 rows_all (suc n) row size (suc t) lt = rows_all n row size t (omega arith)
 
-legal_opening : IsLegal []
+pub legal_opening : IsLegal []
 legal_opening = record {
   numbered = λ k e x. absurd (empty_brings k e x);
   new_key = λ k e f x live same. at_empty (suc k) (Attach e) x;

@@ -12,7 +12,7 @@ use Rattle.protocol.proofs.Occupied.{slot_cases, not_vacant, written_cases}
 use Rattle.protocol.proofs.Cells.{by_cell, cell_cases, cell_here, cell_other, cell_put, get_or_all, place_in}
 use Rattle.protocol.proofs.Either.{either}
 use Rattle.protocol.proofs.History.{one_entry}
-use Rattle.protocol.proofs.counts.Sums.{none_at, one_at}
+use Rattle.protocol.proofs.counts.Sums.{one_other, one_self}
 
 -- a fresh row of marks
 pub marks_detach : (h : List Change) (slots : List Slot) (marks : List (List Mark)) (section : List ℕ) (begins : List (Option ℕ)) (e : Entry) (n : ℕ) → slot_at slots e.slot ≡ Live e
@@ -48,7 +48,7 @@ pub marks_snapshot : (h : List Change) (slots : List Slot) (marks : List (List M
     → MarksHold h slots marks section begins → MarksHold h slots (set marks t (set (get_or marks t []) c (snapshot_mark (get_or section c 0)))) section begins
 marks_snapshot h slots marks section begins t c was = grind (arith, marks_write, same_Some)
 
-changed_word : (x : Option ℕ) (w : ℕ) → has_changed x w ≡ true → (v : ℕ) × (x ≡ Some v) × (w ≡ v → ⊥)
+pub changed_word : (x : Option ℕ) (w : ℕ) → has_changed x w ≡ true → (v : ℕ) × (x ≡ Some v) × (w ≡ v → ⊥)
 changed_word x w holds = grind (arith, eq-eqb)
 
 -- a look passes only where the word is even or differs from the snapshot
@@ -189,10 +189,10 @@ passive_shifted cpus limit slots marks passive words hands others both fits past
 
 -- what c is trying in t, and nowhere else
 pub trying_one : (t n u : ℕ) → t ≡ u → trying_of u (Trying t n) ≡ 1
-trying_one t n u same = one_at t u same
+trying_one t n u same = one_self t u same
 
 pub trying_none : (t n u : ℕ) → (t ≡ u → ⊥) → trying_of u (Trying t n) ≡ 0
-trying_none t n u off = none_at t u off
+trying_none t n u off = one_other t u off
 
 -- a CPU begins to try: its word and what it is trying grow by 1
 pub shifted_try : (passive : List (List ℕ)) (hands : List Hand) (c t n : ℕ) → t < length passive → c < length (get_or passive t []) → c < length hands → get_or hands c Empty ≡ Empty

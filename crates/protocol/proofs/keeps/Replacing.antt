@@ -16,7 +16,7 @@ use Rattle.protocol.proofs.keeps.Linking.{LeadsNow, at_head, at_link, before_lea
 use Rattle.protocol.proofs.keeps.ListKeeps.{CountsOf, DriversOf, ReferencesOf, entry_shows, live_count_put, may_write_tells, rows_put}
 use Rattle.protocol.proofs.keeps.Marking.{passive_attach, passive_detach, snapshots_detach}
 
--- the change by which e takes the place of f
+-- the change that puts e in f's place
 abbrev pub swap : List Change → Entry → Entry → Change
 swap h f e = Replace f.number (rank_at h f.number) e
 

@@ -18,7 +18,7 @@ use Rattle.protocol.proofs.keeps.ListKeeps.{may_publish_tells, may_write_tells, 
 use Rattle.protocol.proofs.keeps.MarkKeeps.{is_drained_tells}
 use Rattle.protocol.proofs.counts.Bounds.{none_held_at_bias}
 use Rattle.protocol.proofs.keeps.Drivers.{HasDriver, slot_has_driver}
-use Rattle.protocol.proofs.counts.Sums.{unreferred, standing_counts, one_at, none_at, standing_within, local_changed}
+use Rattle.protocol.proofs.counts.Sums.{unreferred, standing_counts, one_self, one_other, standing_within, local_changed}
 use Rattle.protocol.proofs.model.RefiningSections.{one_step, two_steps, put_here, put_other, put_is, written, unwritten}
 use Rattle.protocol.proofs.Either.{either}
 
@@ -161,8 +161,8 @@ keep_refines s t id n u on at of ok =
     (Model.Keeps t n (ap number_in told.2) (none_from (kept_at s.keeps t) p1.0) here (omega (arith, standing_counts n s.locals id at)))
     (assumption (
       put_is (λ i. locals_of s i) (λ i. locals_of (Events.after_keep s t id n) i) n (locals_of s n - 1)
-          (omega (arith, changed n, one_at n n refl))
-          (λ i off. omega (arith, changed i, none_at n i (λ same. off (sym same)))),
+          (omega (arith, changed n, one_self n n refl))
+          (λ i off. omega (arith, changed i, one_other n i (λ same. off (sym same)))),
       written (λ (x : Option ℕ). x) None s.keeps t (Some n) (omega (arith, told.1, on.shape.slots, on.shape.keeps)),
     ))
 

@@ -12,7 +12,7 @@ use Rattle.protocol.proofs.keeps.SectionKeeps.{idle_tells}
 use Rattle.protocol.proofs.keeps.MarkKeeps.{may_examine_tells}
 use Rattle.protocol.proofs.keeps.Marking.{found_number, shifted_back, shifted_try, trying_none, trying_one, trying_stays}
 use Rattle.protocol.proofs.keeps.References.{snapshot_due_tells, giving_holds, back_holds}
-use Rattle.protocol.proofs.counts.Sums.{one_at, none_at, standing_within, lifted_within, local_changed, hand_changed, local_added}
+use Rattle.protocol.proofs.counts.Sums.{one_self, one_other, standing_within, lifted_within, local_changed, hand_changed, local_added}
 use Rattle.protocol.proofs.model.RefiningSections.{Alike, join_runs, no_step, one_step, put_is, put_twice, widen_run, seeing_refines}
 use Rattle.protocol.proofs.keeps.CountKeeps.{confirm_tells, hand_full, live_tells, may_try_tells, passive_place, taking_keeps, tried_seen, trying_tells}
 use Rattle.protocol.proofs.Either.{either}
@@ -32,7 +32,7 @@ one_slot slots m n t first second =
     sym b.1.2 ∙ (ap (λ (e : Entry). e.number) (one_in b.1.0 a.1.0 (slot_at slots t) a.1.1 b.1.1) ∙ a.1.2)
 
 -- how many passive references a CPU has to an entry
-abbrev passives_of : State → ℕ → ℕ → ℕ
+abbrev pub passives_of : State → ℕ → ℕ → ℕ
 passives_of s c n = passive_in s.passive s.hands c (slot_of s.slots n)
 
 pub passive_put : (s : State) (c n t v : ℕ) → Holds s → c < s.settings.cpus → slot_of s.slots n ≡ Some t → trying_at s.hands c t ≡ 0
@@ -173,8 +173,8 @@ locals_more s c e hands due locals found tries more =
     one_step (picture s) _ (picture (with_places s hands due locals)) (Model.Counts c e found) (assumption (
       λ (d : ℕ) (i : ℕ). passive_tries s.passive s.hands hands d (slot_of s.slots i) (tries d),
       put_is (λ i. locals_of s i) (λ i. locals_of (with_places s hands due locals) i) e.number (locals_of s e.number + 1)
-          (omega (arith, more e.number, one_at e.number e.number refl))
-          (λ i off. omega (arith, more i, none_at e.number i (λ same. off (sym same)))),
+          (omega (arith, more e.number, one_self e.number e.number refl))
+          (λ i off. omega (arith, more i, one_other e.number i (λ same. off (sym same)))),
     ))
 
 -- one reference less
@@ -182,11 +182,11 @@ locals_less : (s : State) (n : ℕ) (hands : List Hand) (due : Due) (locals : Li
     → ((i : ℕ) → locals_of (with_places s hands due locals) i + one_if (n == i) ≡ locals_of s i)
     → IsModelRun TakesNone (picture s) (picture (with_places s hands due locals))
 locals_less s n hands due locals tries less =
-    one_step (picture s) _ (picture (with_places s hands due locals)) (Model.Uncounts n (omega (arith, less n, one_at n n refl))) (assumption (
+    one_step (picture s) _ (picture (with_places s hands due locals)) (Model.Uncounts n (omega (arith, less n, one_self n n refl))) (assumption (
       λ (c : ℕ) (i : ℕ). passive_tries s.passive s.hands hands c (slot_of s.slots i) (tries c),
       put_is (λ i. locals_of s i) (λ i. locals_of (with_places s hands due locals) i) n (locals_of s n - 1)
-          (omega (arith, less n, one_at n n refl))
-          (λ i off. omega (arith, less i, none_at n i (λ same. off (sym same)))),
+          (omega (arith, less n, one_self n n refl))
+          (λ i off. omega (arith, less i, one_other n i (λ same. off (sym same)))),
     ))
 
 pub count_add_refines : (s : State) (c t : ℕ) (e : Entry) → Holds s → found_at s c ≡ Some e → Events.may_count s c t ≡ true → IsModelRun TakesNone (picture s) (picture (Events.after_count_add s c e.number t))

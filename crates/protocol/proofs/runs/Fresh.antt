@@ -1,4 +1,5 @@
--- Fresh lookups: a search goes on from the history as it was at its Seek, whatever other events come between.
+-- Fresh lookups: a search goes on from the history as it was at its Seek, whichever events come
+-- between.
 use Rattle.std.proofs.Common.{◌≡◌, ℕ, zero, suc, ◌<◌, ◌≤◌, ◌⊎◌, inl, inr, List, [], ◌∷◌, ◌++◌, length, get_or, set, Option, Some, None, Bool, true, refl, sym, ap, subst, ◌∙◌, arith, get_or-set_other, get_or-set_same, IsSome, append_assoc}
 use Rattle.std.proofs.lemmas.Bool.{and_parts, cases_eq}
 use Rattle.std.proofs.lemmas.List.{append-nil}

@@ -28,7 +28,7 @@ use Rattle.protocol.proofs.model.Refining.{ran_refines}
 -- The grace law: what the word of a CPU tells of its sections.
 
 -- the word of c and the begin of its section are as they were
-abbrev Same : ℕ → State → State → Type 0
+abbrev pub Same : ℕ → State → State → Type 0
 Same c s t = (section_at t c ≡ section_at s c) × (begin_at t c ≡ begin_at s c)
 
 -- each event leaves an open section of c, except its exit
@@ -65,7 +65,7 @@ grace_law z events fit = ends_by_exit (Laws.after (opening z) events) (every_run
 
 -- At rest the balance of each slot is its local references held.
 
-vacant_number : (x : Slot) → Model.number_in x ≡ None → x ≡ Vacant
+pub vacant_number : (x : Slot) → Model.number_in x ≡ None → x ≡ Vacant
 vacant_number x is = grind (arith, none-some)
 
 -- what is held in the slot of n is what the model and the slots hold of n

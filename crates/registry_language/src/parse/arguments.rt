@@ -1,6 +1,6 @@
 //! The words after a command's first: CPUs, kinds, names, labels and turns.
 
-ghost use Rattle.std.specs.Prelude.{◌≡◌, IfOk, IsTrue, map, ◌<◌, ◌≤◌};
+ghost use Rattle.std.specs.Prelude.{◌≡◌, IfOk, IsTrue, map, ◌<◌};
 ghost use Rattle.registry_language.specs.Grammar.{cpu_of, kind_from_text, name_if, turns_of, label_of, cpu_alone_of, cpu_key_of, cpu_key_words, cpu_label_of, cpu_label_words};
 ghost use Rattle.registry_language.specs.Program.{is_label, are_turns};
 ghost use Rattle.registry_values.specs.Common.{name_of_bytes, is_lawful};

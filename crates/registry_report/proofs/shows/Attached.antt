@@ -20,7 +20,7 @@ use Rattle.protocol.proofs.keeps.ListKeeps.{live_count_put, taken_from}
 use Rattle.protocol.proofs.Occupied.{in_published, in_unpublished, not_vacant, slot_cases, attached_in, slot_found, slot_has, in_other}
 use Rattle.protocol.proofs.Either.{either}
 use Rattle.protocol.proofs.model.RefiningSections.{put_is}
-use Rattle.protocol.proofs.counts.Sums.{local_changed, none_at, one_at, standing_within}
+use Rattle.protocol.proofs.counts.Sums.{local_changed, one_other, one_self, standing_within}
 use Rattle.protocol.proofs.model.RefiningEntries.{passive_moved}
 use Rattle.passive_core.specs.Common.{with_linked, all_seated, IsLookupNow}
 use Rattle.passive_core.specs.Attaching as core
@@ -283,8 +283,8 @@ pub keeping_shows : (s : SessionState) (r : Registry) (t x id n : ℕ) → IsSes
     (record r { model = with_reference_kept r.model t n; local_labels = put r.local_labels x None })
 keeping_shows s r t x id n is on low small at place = assumption (
   put_is r.model.locals (λ m. sum_by (standing_of m) (set s.core.locals id Free)) n (r.model.locals n - 1)
-      (omega (arith, on.model.counted n, local_changed n s.core.locals id (Standing n) Free (standing_within s.core.locals id n place) place, one_at n n refl))
-      (λ m off. omega (arith, on.model.counted m, local_changed m s.core.locals id (Standing n) Free (standing_within s.core.locals id n place) place, none_at n m (λ same. off (sym same)))),
+      (omega (arith, on.model.counted n, local_changed n s.core.locals id (Standing n) Free (standing_within s.core.locals id n place) place, one_self n n refl))
+      (λ m off. omega (arith, on.model.counted m, local_changed m s.core.locals id (Standing n) Free (standing_within s.core.locals id n place) place, one_other n m (λ same. off (sym same)))),
   put_shows r.model.keeps None s.core.keeps t (Some n) (events.number_standing (local_at s.core.locals id)) (omega (arith, is.holds.shape.keeps)) on.model.kept (sym (ap events.number_standing place)),
   label_gone s r x id is on small at,
 )

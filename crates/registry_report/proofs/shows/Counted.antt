@@ -17,7 +17,7 @@ use Rattle.protocol.proofs.History.{attached_within}
 use Rattle.protocol.proofs.Occupied.{one_number, slot_has, at_rest_tells}
 use Rattle.protocol.proofs.model.RefiningSections.{put_here, put_is, put_other}
 use Rattle.protocol.proofs.keeps.References.{least_free, least_within, standing_tells, with_local_other, with_local_same}
-use Rattle.protocol.proofs.counts.Sums.{local_added, local_changed, none_at, one_at, standing_within, words-at-zero}
+use Rattle.protocol.proofs.counts.Sums.{local_added, local_changed, one_other, one_self, standing_within, words-at-zero}
 use Rattle.protocol.proofs.Either.{either}
 use Rattle.passive_core.specs.Common.{all_seated, IsCounted, after_acquire_local, after_counting, after_release_local, count_in, count_refusal, is_counting, local_slot, with_count_less, with_count_more, with_total_less, audit_of}
 use Rattle.passive_core.specs.References as core
@@ -272,16 +272,16 @@ with_standing s n = with_local s.core.locals (least_id s.core.locals) (Standing 
 more_standing : (s : SessionState) (r : Registry) (n : ℕ) → Shows s r → (m : ℕ)
     → put r.model.locals n (r.model.locals n + 1) m ≡ sum_by (standing_of m) (with_standing s n)
 more_standing s r n on = put_is r.model.locals (λ m. sum_by (standing_of m) (with_standing s n)) n (r.model.locals n + 1)
-    (omega (arith, on.model.counted n, local_added n s.core.locals (Standing n), one_at n n refl))
-    (λ m off. omega (arith, on.model.counted m, local_added m s.core.locals (Standing n), none_at n m (λ same. off (sym same))))
+    (omega (arith, on.model.counted n, local_added n s.core.locals (Standing n), one_self n n refl))
+    (λ m off. omega (arith, on.model.counted m, local_added m s.core.locals (Standing n), one_other n m (λ same. off (sym same))))
 
 less_standing : (s : SessionState) (r : Registry) (id n : ℕ) → Shows s r → local_at s.core.locals id ≡ Standing n → (m : ℕ)
     → put r.model.locals n (r.model.locals n - 1) m ≡ sum_by (standing_of m) (set s.core.locals id Free)
 less_standing s r id n on at =
     let within = standing_within s.core.locals id n at in
     put_is r.model.locals (λ m. sum_by (standing_of m) (set s.core.locals id Free)) n (r.model.locals n - 1)
-    (omega (arith, on.model.counted n, local_changed n s.core.locals id (Standing n) Free within at, one_at n n refl))
-    (λ m off. omega (arith, on.model.counted m, local_changed m s.core.locals id (Standing n) Free within at, none_at n m (λ same. off (sym same))))
+    (omega (arith, on.model.counted n, local_changed n s.core.locals id (Standing n) Free within at, one_self n n refl))
+    (λ m off. omega (arith, on.model.counted m, local_changed m s.core.locals id (Standing n) Free within at, one_other n m (λ same. off (sym same))))
 
 -- one more, counted by c
 more_shows : (s : SessionState) (r : Registry) (c x n t : ℕ) → IsSession s → Shows s r → c < s.core.settings.cpus → x < length s.locals → slot_of s.core.slots n ≡ Some t → r.is_collected n ≡ false

@@ -6,6 +6,7 @@ use Rattle.std.proofs.lemmas.Option.{none-some}
 use Rattle.registry_report.specs.Types.{Entry, Change, Record, CorePsref, Refusal, NothingFound, PassiveFull, WrongCpu, NotHeld, LocalPlace}
 use Rattle.protocol.specs.Common.{State, found_at, local_at, is_number, number_standing, Holds, trying_at, put, with_passive, passive_in}
 use Rattle.registry_values.specs.Common.{slot_of, Answers}
+use Rattle.registry_values.proofs.Answers.{same_Ok}
 use Rattle.passive_core.specs.Common.{IsQuiet, all_seated, IsRecordOf, psref_to_found, psref_copy, passive_of, refusal_of, with_one_less, with_one_more}
 use Rattle.passive_core.specs.References as core
 use Rattle.passive_core.proofs.Entering.{acting_untried}
@@ -144,9 +145,6 @@ released_shows s r c n a is on low within has = less_by s r c n a (slot_of s.cor
     ∙ sym (counted_less s.core c n is.holds low (λ t. session_untried s c t is) has d m))
 
 -- The commands
-
-same_Ok : (p q : CorePsref) → ◌≡◌ {A = Result CorePsref Refusal} (Ok p) (Ok q) → p ≡ q
-same_Ok p q is = cc
 
 Err_Ok : (f : Refusal) (p : CorePsref) → ◌≡◌ {A = Result CorePsref Refusal} (Err f) (Ok p) → ⊥
 Err_Ok f p is = cc

@@ -5,6 +5,7 @@ use Rattle.std.proofs.lemmas.Option.{none-some}
 use Rattle.std.specs.Prelude.{if◌then◌else◌, ◌==◌, Result, Ok, Err, is_ok}
 use Rattle.registry_report.specs.Types.{Entry, Settings, Empty, Vacant, MOST_CPUS, Change, MOST_DEPTH, Refusal, TooDeep, SectionsSpent, Mark, Slot}
 use Rattle.registry_values.specs.Common.{slot_of, slot_at}
+use Rattle.registry_values.proofs.Slots.{none_is}
 use Rattle.protocol.specs.Common.{put, IsIn, one_if, number_in, passive_in, opening, section_at, begin_at, depth_at, mark_at, Holds, MarksHold}
 use Rattle.protocol.specs.Events as events
 use Rattle.protocol.proofs.model.RefiningSections.{put_is, put_here, put_other}
@@ -171,15 +172,11 @@ ended_shows s r c b holds on lt in_ = assumption (
 
 -- Enter
 
-out_from : (o : Option ℕ) → is_some o ≡ false → o ≡ None
-out_from None is = refl
-out_from (Some b) is = absurd (let q : ◌≡◌ {A = Bool} true false = is in cc)
-
 entered_by : (s : SessionState) (r : Registry) (c : ℕ) (b : Bool) → Holds s.core → Shows s r → c < s.core.settings.cpus → events.is_inside s.core c ≡ b
     → Shows (with_core s (if b then with_depth s.core c (depth_at s.core c + 1) else events.after_enter (all_seated s.core) c))
     (if b then record r { depths = put r.depths c (r.depths c + 1) } else with_section_begun r c)
 entered_by s r c true holds on lt is = nested_shows s r c (r.depths c + 1) (depth_at s.core c + 1) holds on lt (ap (λ (d : ℕ). d + 1) (on.sections.deep c))
-entered_by s r c false holds on lt is = begun_shows s r c holds on lt (out_from (begin_at s.core c) is)
+entered_by s r c false holds on lt is = begun_shows s r c holds on lt (none_is (begin_at s.core c) is)
 
 pub entered_shows : (s : SessionState) (r : Registry) (c : ℕ) → Holds s.core → Shows s r → c < s.core.settings.cpus
     → Shows (with_core s (core.with_section_entered s.core c)) (with_section_entered r c)

@@ -1,19 +1,21 @@
 -- Advance, destroy and perform: the registry that the session shows answers and changes as the core does.
 use Rattle.std.proofs.Common.{◌≡◌, ℕ, zero, suc, ◌+◌, ◌-◌, ◌<◌, ◌≤◌, inl, inr, List, length, get_or, set, get_or-set_same, get_or-set_other, Option, Some, None, Bool, true, false, ◌&&◌, nat_lt, refl, sym, ap, subst, ◌∙◌, arith, sum_by}
-use Rattle.std.specs.Prelude.{if◌then◌else◌, is_some, not, Result, Ok, Err}
+use Rattle.std.specs.Prelude.{if◌then◌else◌, is_some, Result, Ok, Err}
 use Rattle.std.proofs.lemmas.Bool.{and_parts, cases_Bool, cases_eq, cases_lt, eq-eqb, ne_eqb, lt-ltb, le-ltb}
 use Rattle.std.proofs.lemmas.Option.{none-some}
-use Rattle.registry_report.specs.Types.{Entry, Change, Refusal, Inside, Stage, Freed, Grace, Local, Passive, Hand, Empty, Mark, Slot, Vacant, Live, Retired}
+use Rattle.registry_report.specs.Types.{Entry, Change, Refusal, Inside, Stage, Freed, Grace, Local, Passive, Empty, Mark, Slot, Vacant, Live, Retired}
 use Rattle.passive_core.specs.Advancing as core
-use Rattle.passive_core.specs.Common.{AdvanceLeaves, DestroyLeaves, LeavesFree, LeavesMarks, LeavesTotal, StageLeaves, is_open_since, is_snapshot, IsQuiet, all_seated, PerformLeaves}
+use Rattle.passive_core.specs.Common.{AdvanceLeaves, DestroyLeaves, LeavesFree, LeavesMarks, LeavesTotal, StageLeaves, is_open_since, is_snapshot, IsQuiet, PerformLeaves}
 use Rattle.registry_values.specs.Common.{wait_answer, destroy_result, destroy_result_of, stage_of, is_retired_as, has_number, is_retired, slot_at, least_below, no_mark}
 use Rattle.protocol.specs.Common.{MarksGrow, SameElsewhere, Holds, IsIn, SlotsShow, held_at, in_hand, one_if, subtraction_due_at, put, number_in, passive_in, is_empty, State, begin_at, count_at, hand_at, kept_at, mark_at, passive_at, section_at, total_at, trying_at, trying_of}
 use Rattle.registry_values.specs.Slots as values
 use Rattle.protocol.specs.Events as events
 use Rattle.registry_values.proofs.Slots.{none_below, least_none, least_agrees, retired_slot_tells}
+use Rattle.registry_values.proofs.Answers.{same_Ok}
 use Rattle.protocol.proofs.Cells.{snapshot_stands, slot_number}
-use Rattle.passive_core.proofs.Advancing.{clear_none, unclear_some}
+use Rattle.passive_core.proofs.Advancing.{unclear_some}
 use Rattle.passive_core.proofs.Entering.{acts_free}
+use Rattle.passive_core.proofs.Performing.{counts_some}
 use Rattle.protocol.proofs.counts.Sums.{no_hand, number_of}
 use Rattle.protocol.proofs.History.{attached_within, ended_within}
 use Rattle.protocol.proofs.keeps.ListKeeps.{live_count_put}
@@ -25,16 +27,14 @@ use Rattle.registry_report.specs.Common.{advance_answer, count_below, destroy_an
 use Rattle.registry_report.proofs.Lookups.{kept_is, position_is, same_count, end_is, end_tells}
 use Rattle.registry_report.proofs.shows.Sectioned.{inside_is, put_shows}
 use Rattle.protocol.proofs.Either.{either}
+use Rattle.protocol.proofs.keeps.SectionKeeps.{empty_from, some_from}
+use Rattle.registry_report.proofs.shows.Referred.{seated_shows}
 
 -- Local references
 
-empty_tells : (h : Hand) → is_empty h ≡ true → h ≡ Empty
-empty_tells Empty is = refl
-empty_tells _ is = absurd (let q : ◌≡◌ {A = Bool} false true = is in cc)
-
 -- nothing is in a hand
 pub hands_empty : (s : State) → Holds s → IsQuiet s → (c : ℕ) → hand_at s c ≡ Empty
-hands_empty s on quiet c = empty_tells (hand_at s c) (and_parts _ (is_empty (hand_at s c)) (acts_free s c on (quiet.ready c))).1
+hands_empty s on quiet c = empty_from (hand_at s c) (and_parts _ (is_empty (hand_at s c)) (acts_free s c on (quiet.ready c))).1
 
 -- the local references held
 pub held_is : (s : SessionState) (r : Registry) (n t : ℕ) → IsSession s → Shows s r → held_at s.core.locals s.core.hands s.core.keeps s.core.due n t ≡ held_count r n
@@ -67,15 +67,11 @@ ended_is s t e on gone =
     let was = on.slots.retired t e gone in
     ap is_some (end_is s.history on.legal e.number was.2.0 was.2.1)
 
-some_of : {X : Type 0} (o : Option X) → is_some o ≡ true → (x : X) × (o ≡ Some x)
-some_of None is = absurd (let q : ◌≡◌ {A = Bool} false true = is in cc)
-some_of (Some x) is = (x, refl)
-
 -- and a live one hasn't
 unended_is : (s : State) (t : ℕ) (e : Entry) → Holds s → slot_at s.slots t ≡ Live e → has_ended s.history e.number ≡ false
 unended_is s t e on live = either (cases_Bool (has_ended s.history e.number))
     (λ yes.
-    let p = some_of (end_of s.history e.number) yes in
+    let p = some_from (end_of s.history e.number) yes in
     let end = end_tells s.history e.number p.0 p.1 in
     absurd (omega (arith, (ended_within s.history e.number p.0 end).1, (on.slots.live t e live).0.unended p.0 end)))
     (λ no. no)
@@ -125,11 +121,6 @@ passive_is : (s : SessionState) (r : Registry) (t c : ℕ) (e : Entry) → Holds
 passive_is s r t c e holds on untried in_ =
     let word : passive_at s.core.passive c t - trying_at s.core.hands c t ≡ passive_at s.core.passive c t = omega (arith, untried) in
     on.model.held c e.number ∙ (ap (passive_in s.core.passive s.core.hands c) (slot_number s.core.history s.core.slots e t holds.slots in_) ∙ word)
-
--- where a CPU is clear if its word is 0, the word says whether it has a passive reference
-counts_some : (w : ℕ) (clear : Bool) → (clear ≡ true → w ≡ 0) → (nat_lt 0 w && not clear) ≡ nat_lt 0 w
-counts_some w true none = clear_none (nat_lt 0 w) true refl ∙ sym (ap (nat_lt 0) (none refl))
-counts_some w false none = unclear_some (nat_lt 0 w) false refl
 
 passive_met : (s : SessionState) (r : Registry) (t c : ℕ) (e : Entry) → IsSession s → Shows s r → slot_at s.core.slots t ≡ Retired e → core.has_passive s.core t c ≡ has_passive r e.number c
 passive_met s r t c e is on gone =
@@ -362,15 +353,12 @@ staged_shows s r k n t (Freed u) holds now on is at left =
     subst (λ v. Shows (with_core s k) (with_freed r v (r.model.keeps v))) here (freed_shows s r k t told.1.0 holds on (unheld_at s k n t u told.1.0 holds now is told.1.1 left))
 staged_shows s r k n t _ holds now on is at left = marks_shows s r k t on left
 
-same_stage : (a b : Stage) → ◌≡◌ {A = Result Stage Refusal} (Ok a) (Ok b) → a ≡ b
-same_stage a b is = cc
-
 advance_by : (s : SessionState) (r : Registry) (k : State) (n : ℕ) (answer : Result Stage Refusal) → Holds s.core → Holds k → Shows s r → core.advance_answer s.core n ≡ answer
     → AdvanceLeaves s.core k n answer
     → Shows (with_core s k) (on_ok r answer (after_stage r n))
 advance_by s r k n (Err f) holds now on is left = subst (λ (x : State). Shows (with_core s x) r) (sym left) on
 advance_by s r k n (Ok stage) holds now on is left =
-    staged_shows s r k n left.0 stage holds now on (same_stage (core.first_obstacle s.core left.0 n) stage (ap (core.stage_in s.core n) (sym left.1) ∙ is)) left.1 left.2
+    staged_shows s r k n left.0 stage holds now on (same_Ok (core.first_obstacle s.core left.0 n) stage (ap (core.stage_in s.core n) (sym left.1) ∙ is)) left.1 left.2
 
 -- What an advance leaves shows what it leaves of the registry.
 pub advance_shows : (s : SessionState) (r : Registry) (k : State) (n : ℕ) → IsSession s → Holds k → Shows s r → AdvanceLeaves s.core k n (core.advance_answer s.core n)
@@ -417,9 +405,6 @@ perform_answers s r c on =
     let least : least_below (events.is_inside s.core) s.core.settings.cpus ≡ least_below (is_inside r) r.settings.cpus =
     least_agrees (events.is_inside s.core) (is_inside r) s.core.settings.cpus (λ d lt. sym (inside_is s r d on)) ∙ ap (least_below (is_inside r)) cpus in
     λ i. if inside i then Err Inside else wait_answer (least i)
-
-seated_shows : (s : SessionState) (r : Registry) → Shows s r → Shows (with_core s (all_seated s.core)) r
-seated_shows s r on = marked_shows s r s.core.marks on (λ u c. refl)
 
 waited_shows : (s : SessionState) (r : Registry) (k : State) (o : Option ℕ) → Shows s r → PerformLeaves s.core k (wait_answer o) → Shows (with_core s k) r
 waited_shows s r k None on left = subst (λ (x : State). Shows (with_core s x) r) (sym left.only) (marked_shows s r k.marks on (λ u c. (left.marks u c).snapshot))

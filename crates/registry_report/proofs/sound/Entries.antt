@@ -14,6 +14,7 @@ use Rattle.protocol.proofs.model.RefiningSections.{put_here, put_is, put_other, 
 use Rattle.protocol.proofs.keeps.Linking.{legal_attach, live_cases, new_attached, attached_before, legal_detach, was_there}
 use Rattle.protocol.proofs.keeps.SectionKeeps.{none_from, some_from}
 use Rattle.protocol.proofs.Either.{either}
+use Rattle.protocol.proofs.keeps.Drivers.{is_driver_tells}
 use Rattle.passive_core.proofs.Advancing.{least_some}
 use Rattle.registry_report.specs.Common.{entry_of, is_driver_entry, is_driver_number, Registry, HasSlot, IsSound, IsSoundModel, IsLawfulTurn, end_of, has_ended, may_hold}
 use Rattle.registry_report.specs.Turns
@@ -114,10 +115,6 @@ driver_from : (k : Kind) → is_iface k ≡ false → is_driver k ≡ true
 driver_from Iface is = absurd (let q : ◌≡◌ {A = Bool} true false = is in cc)
 driver_from Driver is = refl
 
-driver_is : (k : Kind) → is_driver k ≡ true → k ≡ Driver
-driver_is Iface is = absurd (let q : ◌≡◌ {A = Bool} false true = is in cc)
-driver_is Driver is = refl
-
 -- Attach
 
 pub attached_lawful : (r : Registry) (c : ℕ) (rec : Record) (e : Entry) → IsSound r → Turns.attach_answer r c rec ≡ Ok e → IsLawfulTurn r (Turns.with_attached r c e)
@@ -149,7 +146,7 @@ driver_here m d has is = record {
   entry = has.entry;
   attached = has.attached;
   numbered = has.numbered;
-  driver = driver_is has.entry.rec.kind (ap is_driver_entry (sym (ap (entry_of m.history) (sym has.numbered) ∙ entry_is m.history has.entry has.attached)) ∙ is);
+  driver = is_driver_tells has.entry.rec.kind (ap is_driver_entry (sym (ap (entry_of m.history) (sym has.numbered) ∙ entry_is m.history has.entry has.attached)) ∙ is);
   slot = has.entry.slot;
   occupant = has.occupant;
 }

@@ -5,12 +5,13 @@ use Rattle.std.proofs.lemmas.Bool.{cases_eq, cases_lt, eq-eqb, ne_eqb}
 use Rattle.std.specs.List.{All}
 use Rattle.std.proofs.lemmas.List.Elements.{All-head, All-tail}
 use Rattle.std.proofs.lemmas.Option.{none-some, same_Some}
-use Rattle.protocol.specs.Common.{one_if, put, Stays, IsLegal}
+use Rattle.protocol.specs.Common.{one_if, put, Stays}
 use Rattle.protocol.proofs.model.RefiningSections.{join_runs, put_here, put_other}
-use Rattle.registry_report.specs.Types.{Refusal, Settings, Attach, Replace}
+use Rattle.registry_report.specs.Types.{Refusal, Settings}
 use Rattle.registry_report.specs.Common.{Hitch, Refused, count_below, command_answer, is_this, Registry, opening_registry, after_each, labels_for, IsSound, IsLawfulTurn, on_ok}
-use Rattle.protocol.proofs.History.{at_empty, empty_brings, empty_ends}
+use Rattle.protocol.proofs.History.{empty_brings}
 use Rattle.protocol.proofs.Either.{either}
+use Rattle.protocol.proofs.keeps.MarkKeeps.{legal_opening}
 
 -- A function with one value put
 
@@ -169,18 +170,9 @@ each_turn {C} after Fits turn r (x ∷ xs) on fits =
 
 -- As a script begins
 
-none_legal : IsLegal []
-none_legal = record {
-  numbered = λ k e x. absurd (empty_brings k e x);
-  new_key = λ k e f x live same. at_empty (suc k) (Attach e) x;
-  new_slot = λ k e f x live same. empty_brings (suc k) e x;
-  ends_live = λ k n x. absurd (empty_ends n (suc k) x);
-  alike = λ k n r e f x live same. absurd (at_empty (suc k) (Replace n r e) x);
-}
-
 pub opened_sound : (z : Settings) → IsSound (opening_registry z)
 opened_sound z = record {
-  legal = none_legal;
+  legal = legal_opening;
   live = λ e on. absurd (empty_brings e.number e on.attached);
   held = λ c b e in_ hold. absurd (none-some b in_);
   begun = λ c b in_. absurd (none-some b in_);

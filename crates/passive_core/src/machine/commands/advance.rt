@@ -1,6 +1,6 @@
 //! How far the destruction of a retired entry comes: one turn of the keeper's work on it, and at most so many turns.
 
-ghost use Rattle.std.specs.Prelude.{◌≡◌, ◌<◌, IfSome, ℕ, Some, None, true, false, not, length, ◌≤◌};
+ghost use Rattle.std.specs.Prelude.{◌≡◌, ◌<◌, IfSome, ℕ, Some, None, true, not, length, ◌≤◌};
 ghost use Rattle.registry_values.specs.declared.entry.Entry.{Entry as AnEntry};
 ghost use Rattle.passive_core.specs.Types.{Retired};
 ghost use Rattle.registry_values.specs.Common.{is_retired_as, retired_slot, is_retired, slot_at, least_below, stage_of};

@@ -1,13 +1,13 @@
 //! Local references (localcount(9)): acquired in a section, and released on any CPU; and their audit.
 
-ghost use Rattle.std.specs.Prelude.{◌≡◌, ℕ, ◌+◌, ◌<◌, nat_lt, IfOk, IsTrue, Some, None, [], ◌∷◌, ◌++◌, if◌then◌else◌, false, true, ◌≤◌, ◌^◌, IfErr, OnErr, All, map, length, pos, neg_ℤ, ◌≤ℤ◌, slice_index_or};
+ghost use Rattle.std.specs.Prelude.{◌≡◌, ℕ, ◌+◌, ◌<◌, nat_lt, IfOk, IsTrue, Some, None, [], ◌∷◌, if◌then◌else◌, false, true, IfErr, OnErr, All, map};
 ghost use Rattle.passive_core.specs.Commands.{all_seated, may_act};
 ghost use Rattle.passive_core.specs.Making.{Makes, record_loads, seats_and};
 ghost use Rattle.passive_core.specs.Types.{CountAdd, SplitRef, JoinRef, CountDown, SplitBack, Entry};
 ghost use Rattle.protocol.specs.declared.event.RecordOf.TheVariants.{Local as OfLocal};
 ghost use Rattle.protocol.specs.Common.{is_idle, number_standing, at_rest, found_at, local_at, IsIn};
 ghost use Rattle.passive_core.specs.References.{IsCounted, after_acquire_local, after_release_local, release_events, under_events, count_in, count_refusal, is_counting, is_live_local, local_slot, with_count_less, with_total_less, IsRecordOf, IsHeldRightly, IsOccupied, audit_of, locals_at, tally_of};
-ghost use Rattle.registry_values.specs.Common.{why_uncounted, slot_of, bias, less_bias, local_of, sum_of, tally_shown, slot_at};
+ghost use Rattle.registry_values.specs.Common.{why_uncounted, slot_of, bias, less_bias, local_of, tally_shown, slot_at};
 
 use crate::machine::Core;
 use protocol::{Event, RecordOf, Reply};

@@ -1,6 +1,6 @@
 //! Passive references (psref(9)): acquired, copied, read and released on one CPU.
 
-ghost use Rattle.std.specs.Prelude.{◌≡◌, ℕ, ◌<◌, ◌||◌, nat_lt, IfOk, Option, Some, None, [], ◌∷◌, true};
+ghost use Rattle.std.specs.Prelude.{◌≡◌, ℕ, ◌<◌, ◌||◌, nat_lt, IfOk, Some, None, [], ◌∷◌, true};
 ghost use Rattle.passive_core.specs.Commands.{all_seated, may_act};
 ghost use Rattle.passive_core.specs.Making.{Makes, record_loads, seats_and};
 ghost use Rattle.passive_core.specs.Types.{PassiveAdd, PassiveSub, Word};

@@ -1,7 +1,8 @@
 use Rattle.std.proofs.Common.{sym, ◌∙◌}
-use Rattle.passive_core.proofs.Advancing.{advance_again, answer_again, marks_again, not_freed, same_Ok}
+use Rattle.passive_core.proofs.Advancing.{advance_again, answer_again, marks_again, not_freed}
 use Rattle.passive_core.proofs.Making.{work_again}
 use Rattle.passive_core.proofs.machine.Core.destroy.Goals as goal
+use Rattle.registry_values.proofs.Answers.{same_Ok}
 
 pub loop-preserved : goal.loop-preserved
 loop-preserved c =

@@ -1,5 +1,5 @@
 use Rattle.passive_core.specs.Types.{Slot}
-use Rattle.std.proofs.Common.{◌≡◌, ◌≢◌, ℕ, zero, suc, refl, sym, ◌∙◌}
+use Rattle.std.proofs.Common.{◌≡◌, ◌≢◌, ℕ, zero, suc, refl, ◌∙◌}
 use Rattle.protocol.specs.Common.{is_honest, has_live}
 use Rattle.passive_core.proofs.machine.recalls.is_honest.Goals as goal
 
