@@ -6,8 +6,9 @@ use Rattle.registry_values.specs.Common.{is_iface, is_retired_as, slot_at}
 use Rattle.registry_values.specs.Answers as answers
 use Rattle.registry_values.proofs.Answers.{attach_tells}
 use Rattle.registry_values.proofs.Fit.{ranges}
-use Rattle.passive_list.specs.Common.{OnCpu, IsOurKeeper, OnKeeper, HasHeardOn, HasFreed}
+use Rattle.passive_list.specs.Common.{OnCpu, IsOurKeeper, OnKeeper, HasHeardOn}
 use Rattle.passive_list.proofs.Sharing.{sharing}
+use Rattle.local_count.specs.Draining.{HasFreed}
 use Rattle.name_registry.specs.Common.{WeightsTell, number_of, unit, weigh, weight, HasAdvanced, HasEnded, HasWorkedFor, Meets, attach_answer, attach_iface_answer, given_entry, HasMade, HasAdvancedFor, IsDetachAnswer, HasLearned, HasSeenAttach, HasSeenDetach, keeper_after_hear, is_inside, GlancesBelow, HasBegun, HasGlanced, HasPassedAll, Hold, Looking, PassesBelow, PassesIf, SnapshotsBelow, HasAttachedFor, HasAttachedIfaceFor, HasDetachedFor, HasReplacedFor, HasReplacedIfaceFor, HasSeenReplace, IsReplaceAnswer, HasGivenUpFor, first_fit, fit_slot, room_of, PassesEntry}
 use Rattle.name_registry.specs.Changes.{AreAlike}
 use Rattle.name_registry.proofs.Passed.{OnlyLooked, snapshots_look, glances_look}

@@ -2,7 +2,8 @@
 use Rattle.std.proofs.Common.{◌≡◌, ◌≢◌, ◌∙◌, inl, inr, ℕ, Option, Some, None, Result, Ok, Err, IfErr, refl, sym, ap, subst}
 use Rattle.name_registry.specs.Types.{Key, NotFound, ReferenceView, Refusal, Seen}
 use Rattle.local_count.specs.{AnswersAcquireLocal}
-use Rattle.passive_list.specs.Common.{AnswersEnter, FindsInside, HasExitedOn, HasFoundKept, HasRecalledInVain, OnCpu, OnPlainRef}
+use Rattle.local_count.specs.References.{OnPlainRef}
+use Rattle.passive_list.specs.Common.{AnswersEnter, FindsInside, HasExitedOn, HasFoundKept, HasRecalledInVain, OnCpu}
 use Rattle.passive_list.proofs.Sharing.{sharing}
 use Rattle.name_registry.specs.Common.{CountsInSection, FindsAndCounts, GetsLocal}
 

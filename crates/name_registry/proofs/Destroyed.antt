@@ -16,7 +16,8 @@ use Rattle.cpu_words.proofs.by_keeper.KeeperSteps.{seen_by_keeper}
 use Rattle.cpu_words.proofs.logs.Slots.{not_attached}
 use Rattle.cpu_words.proofs.laws.Freed.{ended_runs}
 use Rattle.cpu_words.proofs.shown.Seeing.{prefix_both}
-use Rattle.passive_list.specs.Common.{OnCpu, OnKeeper, HasOwnLog, HasHeardOn, as_teller, cpu_after_tell, has_heard, has_told, HasFreed}
+use Rattle.passive_list.specs.Common.{OnCpu, OnKeeper, HasOwnLog, HasHeardOn, as_teller, cpu_after_tell, has_heard, has_told}
+use Rattle.local_count.specs.Draining.{HasFreed}
 use Rattle.name_registry.specs.Common.{EndsIn, HasAdvanced, HasEnded, Meets, MeetsGrace, MeetsLocal, MeetsPassive, HasAdvancedFor, hears_cpu, keeper_after_hear, keeper_after_tell, AnswersBy, HasMet, IsNotRetired, IsRetiredIn, IsTurn, MetLocals, MetReference, MetSection, IsGoneIfFreed, Destroys, DestroysOutside, HasDestroyed, LastMeeting, SomeAdvancedFor, TurnsMeeting, IsDestroyRefusal, HasLearned, IsDestroyAnswer, ClosesRun, StaysGoneBy, tells_and_hears}
 use Rattle.name_registry.proofs.Noted.{heard_told_again, met_again, prefix_short, learned, by_meeting_again}
 use Rattle.name_registry.proofs.Worked.{prefix_on}

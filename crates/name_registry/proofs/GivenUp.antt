@@ -4,7 +4,8 @@ use mathlib.Core.List.{IsPrefix}
 use Rattle.name_registry.specs.Types.{Done, Entry, JoinKeeper, LogItem, ReferenceView, Tell, TotalSub}
 use Rattle.cpu_words.specs.Common.{did, given_after, given_by, given_up, log_item}
 use Rattle.local_count.specs.{HasComeBack}
-use Rattle.passive_list.specs.Common.{OnCpu, OnKeeper, HasGivenUp, HasHeardOn, cpu_after_tell, has_heard}
+use Rattle.local_count.specs.Draining.{HasGivenUp}
+use Rattle.passive_list.specs.Common.{OnCpu, OnKeeper, HasHeardOn, cpu_after_tell, has_heard}
 use Rattle.name_registry.specs.Common.{HasGivenUpFor, HasLearned, IsLetGoAndHeard, KnowsGivenUp, gives_up, hears_cpu, keeper_after_hear, keeper_after_tell, tells_and_hears}
 use Rattle.name_registry.proofs.Noted.{by_meeting, heard_told, met, learned}
 use Rattle.name_registry.proofs.Worked.{prefix_on}

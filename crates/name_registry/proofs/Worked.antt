@@ -13,9 +13,10 @@ use Rattle.protocol.specs.Common.{kept_at, keeps_rightly, DriversKept, State, op
 use Rattle.protocol.proofs.Cells.{mark_grows, mark_there, marks_grow_none, marks_grow_more, passed_from, clear_from, collected_from, total_other, snapshot_stands}
 use Rattle.cpu_words.specs.Common.{IsShown, did, Makes, has_looked, has_looked_passive, HasLookedPassive, HasLooked}
 use Rattle.cpu_words.proofs.by_keeper.KeeperSteps.{seen_by_keeper}
-use Rattle.passive_list.specs.Common.{OnKeeper, row_at, state_of, states_of, IsOurKeeper, OnPlainKeeper, on_keeper, IsDrainedOn, AreHeld, HasCollectedInto, GoesOnBy}
+use Rattle.passive_list.specs.Common.{OnKeeper, row_at, state_of, states_of, IsOurKeeper, OnPlainKeeper, on_keeper, IsDrainedOn, GoesOnBy}
 use Rattle.passive_list.proofs.Marks.{marked}
 use Rattle.passive_list.proofs.Rows.{retired_in, goes_on, no_more, one_more, keeper_is}
+use Rattle.local_count.specs.Draining.{AreHeld, HasCollectedInto}
 use Rattle.name_registry.specs.Common.{first_fit, is_live_row, is_available_row, MayWork, HasEnded, HasWorkedFor, HasLookedFor, PassedBelow, ClearBelow, CollectedBelow, Settles, IsLook, LooksBelow, LooksUnless, is_retired_row, HasLookedLast, EndsIn, SeesSection, SeesPassive, Meets, MeetsGrace, MeetsLocal, MeetsPassive}
 
 -- Tests over the keeper's rows are tests over what a contract sees of the keeper.

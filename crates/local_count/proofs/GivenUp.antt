@@ -11,9 +11,11 @@ use Rattle.protocol.proofs.Occupied.{not_vacant}
 use Rattle.cpu_words.specs.Common.{row_of, HasCollected, HasAdded, IsShown, Makes, IsFoundCollected, MayJoinKeeper, keeper_after_join, one_more}
 use Rattle.cpu_words.specs.Draining.{HasSubtracted}
 use Rattle.cpu_words.proofs.seats.Seating.{step_is_shown}
-use Rattle.passive_list.specs.Common.{KeptSlot, OnKeeper, OnPlainKeeper, on_keeper, row_at, states_of, total_or_bias, IsAtRest, MarksAgree, RowsAgree, IsOurKeeper, AreHeld, RowAgrees}
+use Rattle.passive_list.specs.declared.keeper.KeptSlot.{KeptSlot}
+use Rattle.passive_list.specs.Common.{OnKeeper, OnPlainKeeper, on_keeper, row_at, states_of, total_or_bias, IsAtRest, MarksAgree, RowsAgree, IsOurKeeper, RowAgrees}
 use Rattle.passive_list.proofs.Marks.{mark_read, marks_set}
 use Rattle.passive_list.proofs.Rows.{state_at, not_vacant_within, retired_in, keeper_on, row_stays, rows_set, none_at_rest, total_collected, IsHeldIn, held_given_up}
+use Rattle.local_count.specs.Draining.{AreHeld}
 
 -- Collections: what the rows say where a count word is collected, and where all are.
 

@@ -7,7 +7,7 @@ use registry_values::{Kind, Record, record_from};
 use std::marker::Model;
 
 /// A local reference (localcount(9)) to an entry of the table that its seat is of. It can't be dropped: it is spent by a release. To a
-/// contract it is that table, and what `LocalRef` of `local_count` is to one.
+/// contract it is that table, and what `LocalRef` is to one.
 pub struct PlainRef {
     pub seat: ReferenceSeat,
     /// Its entry's number, from 1.
@@ -19,7 +19,7 @@ pub struct PlainRef {
 }
 
 impl Model for PlainRef {
-    ghost use Rattle.passive_list.specs.References.{OnPlainRef, IsOurReference};
+    ghost use Rattle.local_count.specs.References.{OnPlainRef, IsOurReference};
 
     ghost Value = { OnPlainRef };
 

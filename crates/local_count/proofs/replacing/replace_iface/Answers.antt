@@ -5,13 +5,16 @@ use Rattle.registry_values.specs.Common.{slot_at}
 use Rattle.protocol.specs.Common.{kept_at}
 use Rattle.cpu_words.specs.Common.{JoinsBy}
 use Rattle.cpu_words.proofs.seats.Seating.{step_is_shown}
-use Rattle.passive_list.specs.Common.{AreWritten, HasReplaced, HasReplacedKeeping, IsOurKeeper, KeptSlot, MarksAgree, MayReplace, OnKeeper, OnPlainKeeper, OnPlainRef, row_at, state_of, states_of, rows_replaced}
-use Rattle.passive_list.proofs.Attached.{row_keeping, rows_keeping, states_keeping}
+use Rattle.passive_list.specs.declared.keeper.KeptSlot.{KeptSlot}
+use Rattle.passive_list.specs.Common.{AreWritten, HasReplaced, IsOurKeeper, MarksAgree, MayReplace, OnKeeper, OnPlainKeeper, row_at, state_of, states_of, rows_replaced}
 use Rattle.passive_list.proofs.Marks.{marks_stay, slot_below, written_back}
-use Rattle.passive_list.proofs.Replaced.{ask_keeping, of_live, replaced_keeper, replaced_marks, rows_back, same_live, states_replaced, there as there_is}
+use Rattle.passive_list.proofs.Replaced.{of_live, replaced_keeper, replaced_marks, rows_back, same_live, states_replaced, there as there_is}
 use Rattle.passive_list.proofs.Rows.{keeper_is, live_in, live_read, row_read, settings_are, state_at}
-use Rattle.passive_list.proofs.replacing.replace_iface.Goals.{In-Live, After-index_mut}
-use Rattle.passive_list.proofs.replacing.replace_iface.Goals as goal
+use Rattle.local_count.specs.Draining.{HasReplacedKeeping}
+use Rattle.local_count.specs.References.{OnPlainRef}
+use Rattle.local_count.proofs.Kept.{ask_keeping, row_keeping, rows_keeping, states_keeping}
+use Rattle.local_count.proofs.replacing.replace_iface.Goals.{In-Live, After-index_mut}
+use Rattle.local_count.proofs.replacing.replace_iface.Goals as goal
 
 -- the entry is the one of the slot's row
 is_live : (c : In-Live) → (row_at c.keeper.inside.rows.items c.args.old).state ≡ Live c.in-Live.entry

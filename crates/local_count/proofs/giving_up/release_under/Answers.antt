@@ -3,12 +3,15 @@ use Rattle.std.proofs.Math.Seq.{map-set_same}
 use Rattle.passive_list.specs.Types.{Done, JoinKeeper, Keeper, KeeperView, Reference, TotalSub}
 use Rattle.cpu_words.specs.Common.{JoinsBy, Makes, did}
 use Rattle.cpu_words.specs.Draining.{HasSubtracted}
-use Rattle.passive_list.specs.Common.{KeptSlot, HasGivenUp, IsOurKeeper, OnKeeper, OnPlainKeeper, OnPlainRef, no_row, state_of, states_of, total_or_bias}
+use Rattle.passive_list.specs.declared.keeper.KeptSlot.{KeptSlot}
+use Rattle.passive_list.specs.Common.{IsOurKeeper, OnKeeper, OnPlainKeeper, no_row, state_of, states_of, total_or_bias}
 use Rattle.passive_list.proofs.Marks.{marks_stay}
 use Rattle.passive_list.proofs.Rows.{keeper_is, row_read}
-use Rattle.passive_list.proofs.GivenUp.{HeldRow, row_less, may_take_in, given_is, given_row, given_keeper}
-use Rattle.passive_list.proofs.giving_up.release_under.Goals.{After-index}
-use Rattle.passive_list.proofs.giving_up.release_under.Goals as goal
+use Rattle.local_count.specs.Draining.{HasGivenUp}
+use Rattle.local_count.specs.References.{OnPlainRef}
+use Rattle.local_count.proofs.GivenUp.{HeldRow, row_less, may_take_in, given_is, given_row, given_keeper}
+use Rattle.local_count.proofs.giving_up.release_under.Goals.{After-index}
+use Rattle.local_count.proofs.giving_up.release_under.Goals as goal
 
 pub join_keeper-requires-clause-may : goal.join_keeper-requires-clause-may
 join_keeper-requires-clause-may c =

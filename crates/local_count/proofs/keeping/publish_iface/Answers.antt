@@ -5,12 +5,16 @@ use Rattle.passive_list.specs.Types.{Entry, Keep, Done, LogItem, Settings, Slot,
 use Rattle.protocol.specs.Common.{kept_at}
 use Rattle.cpu_words.specs.Common.{JoinsBy, did, keeper_after_keep}
 use Rattle.cpu_words.proofs.seats.Seating.{step_is_shown}
-use Rattle.passive_list.specs.Common.{KeptSlot, LogsAttach, OnKeeper, OnPlainRef, IsOurKeeper, RowsAgree, row_at, state_of, states_of, MayAttach, HasEntry, HasAttachedKeeping}
+use Rattle.passive_list.specs.declared.keeper.KeptSlot.{KeptSlot}
+use Rattle.passive_list.specs.Common.{LogsAttach, OnKeeper, IsOurKeeper, RowsAgree, row_at, state_of, states_of, MayAttach, HasEntry}
 use Rattle.passive_list.proofs.Rows.{keeper_is, row_read, settings_are}
-use Rattle.passive_list.proofs.Attached.{published_keeper, row_live, row_keeping, rows_keeping, states_keeping, may_attach}
+use Rattle.passive_list.proofs.Attached.{published_keeper, row_live}
 use Rattle.passive_list.proofs.Marks.{marks_stay}
-use Rattle.passive_list.proofs.keeping.publish_iface.Goals.{After-index_mut}
-use Rattle.passive_list.proofs.keeping.publish_iface.Goals as goal
+use Rattle.local_count.specs.Draining.{HasAttachedKeeping}
+use Rattle.local_count.specs.References.{OnPlainRef}
+use Rattle.local_count.proofs.Kept.{row_keeping, rows_keeping, states_keeping, may_attach}
+use Rattle.local_count.proofs.keeping.publish_iface.Goals.{After-index_mut}
+use Rattle.local_count.proofs.keeping.publish_iface.Goals as goal
 
 -- the rows with what is kept, as they are once that was written
 kept : (c : After-index_mut) → set c.keeper.inside.rows.items c.args.slot (row_keeping c.index_mut.result.now c.reference.inside.number) ≡ rows_keeping c.keeper.inside.rows.items c.args.slot c.reference.inside.number

@@ -5,13 +5,15 @@ use Rattle.std.proofs.Math.Seq.{map-set_same}
 use Rattle.cpu_words.proofs.seats.Seating.{step_is_shown}
 use Rattle.passive_list.specs.Types.{Settings, Slot, Vacant, KeeperView}
 use Rattle.registry_values.specs.Common.{slot_at}
-use Rattle.passive_list.specs.Common.{KeptSlot, OnKeeper, OnPlainKeeper, HasFreed, IsOurKeeper, kept_slot, no_row, row_at, state_of, states_of, total_or_bias}
+use Rattle.passive_list.specs.declared.keeper.KeptSlot.{KeptSlot}
+use Rattle.passive_list.specs.Common.{OnKeeper, OnPlainKeeper, IsOurKeeper, no_row, row_at, state_of, states_of, total_or_bias}
 use Rattle.passive_list.proofs.Marks.{marks_stay}
 use Rattle.passive_list.proofs.Rows.{keeper_is, retired_in, row_read}
-use Rattle.passive_list.proofs.Retired.{KeepsHeld, keeps_on, may_free, freed_is, freed_keeper, row_freed}
-use Rattle.passive_list.proofs.GivenUp.{HeldRow, held_row, row_less}
-use Rattle.passive_list.proofs.vacating.free_iface.Goals.{After-kept_slot, In-Some}
-use Rattle.passive_list.proofs.vacating.free_iface.Goals as goal
+use Rattle.local_count.specs.Draining.{HasFreed, kept_slot}
+use Rattle.local_count.proofs.Freed.{KeepsHeld, keeps_on, may_free, freed_is, freed_keeper, row_freed}
+use Rattle.local_count.proofs.GivenUp.{HeldRow, held_row, row_less}
+use Rattle.local_count.proofs.freeing.free_iface.Goals.{After-kept_slot, In-Some}
+use Rattle.local_count.proofs.freeing.free_iface.Goals as goal
 
 -- the row that was read
 row_is : (c : After-kept_slot) → c.index-row.result.now ≡ row_at c.keeper.inside.rows.items c.args.slot

@@ -5,12 +5,14 @@ use Rattle.registry_values.specs.Common.{bias, slot_at}
 use Rattle.protocol.specs.Common.{total_at}
 use Rattle.cpu_words.specs.Common.{Makes, MayTotalAdd, did}
 use Rattle.cpu_words.proofs.seats.Seating.{step_is_shown}
-use Rattle.passive_list.specs.Common.{KeptSlot, OnPlainKeeper, HasCollectedInto, IsOurKeeper, keeper_after_collect, no_row, row_at, state_of, states_of, total_or_bias}
+use Rattle.passive_list.specs.declared.keeper.KeptSlot.{KeptSlot}
+use Rattle.passive_list.specs.Common.{OnPlainKeeper, IsOurKeeper, no_row, row_at, state_of, states_of, total_or_bias}
 use Rattle.passive_list.proofs.Marks.{look_below}
 use Rattle.passive_list.proofs.Rows.{adding_fits, keeper_is, retired_in, row_read}
-use Rattle.passive_list.proofs.GivenUp.{collected_keeper, row_with_total}
-use Rattle.passive_list.proofs.collecting.collect.Goals.{After-total_or_bias}
-use Rattle.passive_list.proofs.collecting.collect.Goals as goal
+use Rattle.local_count.specs.Draining.{HasCollectedInto, keeper_after_collect}
+use Rattle.local_count.proofs.GivenUp.{collected_keeper, row_with_total}
+use Rattle.local_count.proofs.collecting.collect.Goals.{After-total_or_bias}
+use Rattle.local_count.proofs.collecting.collect.Goals as goal
 
 -- the slot is one of the table's
 within : (c : After-total_or_bias) → c.args.slot < c.keeper.inside.settings.slots

@@ -2,9 +2,9 @@ use Rattle.std.proofs.Common.{◌≡◌, ◌∙◌, ap, rules}
 use Rattle.registry_values.specs.Common.{slot_at}
 use Rattle.passive_list.specs.Common.{OnPlainKeeper, row_at, total_or_bias}
 use Rattle.passive_list.proofs.Rows.{retired_in, row_read}
-use Rattle.passive_list.proofs.GivenUp.{total_tells}
-use Rattle.passive_list.proofs.collecting.total.Goals.{After-total_or_bias}
-use Rattle.passive_list.proofs.collecting.total.Goals as goal
+use Rattle.local_count.proofs.GivenUp.{total_tells}
+use Rattle.local_count.proofs.collecting.total.Goals.{After-total_or_bias}
+use Rattle.local_count.proofs.collecting.total.Goals as goal
 
 -- the total that was read is the slot's row's
 read : (c : After-total_or_bias) → c.total_or_bias.result ≡ total_or_bias (row_at c.keeper.inside.rows.items c.args.slot)

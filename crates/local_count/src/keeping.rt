@@ -5,13 +5,12 @@ ghost use Rattle.passive_list.specs.Types.{Iface, Driver, Keep, Done, Vacant};
 ghost use Rattle.registry_values.specs.Common.{key_of_record, is_taken, live_count, slot_at, is_key};
 ghost use Rattle.protocol.specs.Common.{kept_at};
 ghost use Rattle.cpu_words.specs.Common.{AreWordsOf, did};
-ghost use Rattle.passive_list.specs.Draining.{HasAttachedKeeping};
-ghost use Rattle.passive_list.specs.Publishing.{LogsAttach};
+ghost use Rattle.passive_list.specs.Common.{LogsAttach};
+ghost use Rattle.local_count.specs.Draining.{HasAttachedKeeping};
 
-use crate::keeper::Keeper;
 use crate::plain_ref::PlainRef;
-use crate::publishing::publish_entry;
 use cpu_words::{Words, steps};
+use passive_list::{Keeper, publish_entry};
 use registry_values::{Entry, Record};
 
 /// Publishes an interface in `slot`, which keeps the reference to its driver from now on. It does what `publish` does, and spends the

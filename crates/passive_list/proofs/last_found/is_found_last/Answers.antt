@@ -2,9 +2,8 @@
 use Rattle.std.proofs.Common.{◌≡◌, None, subst}
 use Rattle.std.proofs.lemmas.Bool.{eqb-true, eqb-false}
 use Rattle.passive_list.specs.Common.{OnPlainCpu}
-use Rattle.passive_list.proofs.Agreeing.{IsFoundAs, found_as, found_none}
-use Rattle.local_count.proofs.References.{is_last, none_last, not_last}
-use Rattle.local_count.proofs.counting.is_last_found.Goals as goal
+use Rattle.passive_list.proofs.Agreeing.{IsFoundAs, found_as, found_none, is_last, none_last, not_last}
+use Rattle.passive_list.proofs.last_found.is_found_last.Goals as goal
 
 pub returns-then-found-eq0-clause-no : goal.returns-then-found-eq0-clause-no
 returns-then-found-eq0-clause-no c _ =

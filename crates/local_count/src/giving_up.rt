@@ -2,11 +2,11 @@
 
 ghost use Rattle.std.specs.Prelude.{◌≡◌, ◌<◌};
 ghost use Rattle.cpu_words.specs.Common.{AreWordsOf, IsFoundCollected};
-ghost use Rattle.passive_list.specs.Draining.{HasGivenUp};
+ghost use Rattle.local_count.specs.Draining.{HasGivenUp};
 
-use crate::keeper::Keeper;
 use crate::plain_ref::PlainRef;
 use cpu_words::{Words, steps};
+use passive_list::Keeper;
 
 /// Releases a local reference under the interlock: its seat is spent, and the total of its entry's slot is one less.
 /// Condition: some count word of its slot was collected. A release by a CPU's count found it so where it handed the reference back; else the

@@ -4,7 +4,7 @@ use Rattle.registry_values.specs.Common.{slot_at, mark_after_passive_look}
 use Rattle.passive_list.specs.Common.{OnPlainKeeper}
 use Rattle.passive_list.proofs.Marks.{look_below, looked_keeper, looked_mark}
 use Rattle.passive_list.proofs.Rows.{retired_in}
-use Rattle.passive_list.proofs.grace.look_passive.Goals as goal
+use Rattle.passive_ref.proofs.looking.look_passive.Goals as goal
 
 pub passive_look-word-requires-clause-place : goal.passive_look-word-requires-clause-place
 passive_look-word-requires-clause-place c =

@@ -5,10 +5,10 @@ ghost use Rattle.passive_list.specs.Types.{Entry, Retired};
 ghost use Rattle.registry_values.specs.Common.{have_passed, are_clear, are_collected, bias, slot_at};
 ghost use Rattle.protocol.specs.Common.{mark_at, total_at};
 ghost use Rattle.cpu_words.specs.Common.{AreWordsOf};
-ghost use Rattle.passive_list.specs.Draining.{HasCollectedInto, AreHeld};
+ghost use Rattle.local_count.specs.Draining.{HasCollectedInto, AreHeld};
 
-use crate::keeper::{Keeper, mark_place};
 use cpu_words::{Words, steps};
+use passive_list::{Keeper, mark_place};
 use registry_values::{BIAS, collected as collected_mark};
 
 /// Collects the count word of a CPU for the retired entry in `slot`: the word becomes 0, and its net count is added to the slot's total.
