@@ -1,4 +1,4 @@
-use Rattle.std.proofs.Common.{◌≡◌, Ok, Err, subst, sym, ap}
+use Rattle.std.proofs.Common.{◌≡◌, Ok, subst, sym, ap}
 use Rattle.name_registry.specs.Types.{Iface, Key, ReferenceView}
 use Rattle.cpu_words.specs.Common.{IsAttachedKeeping}
 use Rattle.passive_list.specs.Common.{OnCpu, OnPlainCpu}
