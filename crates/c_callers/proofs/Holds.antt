@@ -4,7 +4,8 @@ use Rattle.std.proofs.lemmas.Option.{none-some, same_Some}
 use Rattle.c_calls.specs.Types.{Key, NoMemory, Refusal}
 use Rattle.registry_values.specs.Common.{number_of_refusal}
 use Rattle.cpu_words.specs.Common.{Named}
-use Rattle.passive_list.specs.Common.{HasGivenUp, OnPlainCpu, OnPlainKeeper}
+use Rattle.passive_list.specs.Common.{OnPlainCpu, OnPlainKeeper}
+use Rattle.local_count.specs.Draining.{HasGivenUp}
 use Rattle.c_handles.specs.Bodies.{IsReferenceOf, OnLocal, OnLocalBody}
 use Rattle.c_handles.specs.declared.values.plain.TheConstants.{DONE, NOT_COLLECTED}
 use Rattle.c_handles.specs.declared.values.plain.CEntry.{CEntry}

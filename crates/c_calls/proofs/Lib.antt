@@ -1,4 +1,3 @@
-pub mod Both
 pub mod Asked
 pub mod Collected
 pub mod Opened

@@ -1,6 +1,5 @@
 -- Opening a registry: the seats of its CPUs, taken from the last, the CPUs made of them, and what is answered.
 use Rattle.std.proofs.Common.{◌≡◌, ℕ, zero, suc, ◌+◌, ◌<◌, ◌≤◌, List, [], ◌∷◌, ◌++◌, length, Option, Some, None, refl, sym, ◌∙◌, subst, arith, length-append, ◌-◌, ap, ⊎_elim, ◌≢◌, true, false}
-use Rattle.std.specs.Option.{MatchOption}
 use Rattle.std.proofs.lemmas.Bool.{cases_lt, false≢true}
 use mathlib.Core.Option.{some-injective, some}
 use lib.ListN.{get_elem?}
@@ -23,11 +22,6 @@ use Rattle.c_calls.proofs.Handles.{at_front, no_body, none_past}
 pub record AreLeft (table : TableId) (z : Settings) (seats : List (Seated CpuView)) : Type 0 where
   pub few : length seats ≤ z.cpus
   pub are : AreSeats table z (length seats) seats
-
--- what a match says where there is no value
-pub at_none : {X A : Type 0} (B : X → Type 0) (o : Option X) → MatchOption o A B → ((x : X) → o ≡ Some x → ⊥) → A
-at_none B None told off = told
-at_none B (Some x) told off = absurd (off x refl)
 
 pub all_left : (table : TableId) (z : Settings) (seats : List (Seated CpuView)) → AreSeats table z z.cpus seats → AreLeft table z seats
 all_left table z seats are = record { few = omega (arith, are.count); are = subst (λ n. AreSeats table z n seats) (sym are.count) are }

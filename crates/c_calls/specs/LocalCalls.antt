@@ -3,8 +3,9 @@ use Rattle.std.specs.Prelude.{ℕ, zero, suc, Bool, true, false, ◌&&◌, ◌||
 use Rattle.c_calls.specs.Types.{Key, Refusal, NoMemory, ReferenceView}
 use Rattle.registry_values.specs.Common.{is_retired_as, slot_at, number_of_refusal}
 use Rattle.protocol.specs.Common.{mark_at}
-use Rattle.passive_list.specs.Common.{OnKeeper, OnPlainCpu, HasGivenUp, OnPlainKeeper}
+use Rattle.passive_list.specs.Common.{OnKeeper, OnPlainCpu, OnPlainKeeper}
 use Rattle.local_count.specs.{AcquiresEntryLocal, HasComeBack, HasReleased}
+use Rattle.local_count.specs.Draining.{HasGivenUp}
 use Rattle.name_registry.specs.Common.{GetsLocal}
 use Rattle.c_handles.specs.declared.handle.CpuHandle.{CpuHandle}
 use Rattle.c_handles.specs.declared.values.plain.CEntry.{CEntry}

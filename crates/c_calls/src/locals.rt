@@ -2,7 +2,7 @@
 
 ghost use Rattle.std.specs.Prelude.{◌≡◌, ◌≢◌, ◌<◌, IsTrue, Some, None, true, false, length};
 ghost use Rattle.cpu_words.specs.Common.{IsFoundCollected};
-ghost use Rattle.passive_list.specs.Common.{HasGivenUp};
+ghost use Rattle.local_count.specs.Draining.{HasGivenUp};
 ghost use Rattle.c_handles.specs.Bodies.{IsReferenceOf, OnLocal, OnLocalBody};
 ghost use Rattle.c_handles.specs.Heap.{IsLong};
 ghost use Rattle.c_handles.specs.declared.values.plain.TheConstants.{DONE};

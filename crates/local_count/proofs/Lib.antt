@@ -1,1 +1,4 @@
 pub mod References
+pub mod GivenUp
+pub mod Kept
+pub mod Freed

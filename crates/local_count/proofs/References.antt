@@ -16,11 +16,12 @@ use Rattle.cpu_words.specs.Common.{number_at, with_number, IsShownCpu, IsPlaceCo
 use Rattle.cpu_words.specs.declared.view.InHand.TheVariants.{Empty as NoEntry, Taking as TakingEntry, Giving as GivingEntry, Back as BackEntry}
 use Rattle.cpu_words.proofs.by_cpu.Locals.{with_number_same, with_number_other, one_more_same, one_more_other, place_is}
 use Rattle.cpu_words.proofs.seats.Seating.{found_is_in}
-use Rattle.passive_list.specs.Common.{Memory, no_place, place_at, NetAgree, IsOurCpu, IsKept, IsOurReference}
+use Rattle.passive_list.specs.Common.{Memory, no_place, place_at, NetAgree, IsOurCpu, IsKept}
 use Rattle.passive_list.specs.declared.place.Found.{Found}
 use Rattle.passive_list.specs.declared.place.NumberedCount.{NumberedCount}
 use Rattle.passive_list.proofs.Agreeing.{IsFoundAs, cpu_at, found_as, found_none}
-use Rattle.local_count.specs.{net_by, net_word, HasComeBack, HasReleased, IsLastFound, why_not_acquired_local}
+use Rattle.local_count.specs.{net_by, net_word, HasComeBack, HasReleased, why_not_acquired_local}
+use Rattle.local_count.specs.References.{IsOurReference}
 
 -- the place of a slot says a number's net count, where it is for that number
 pub place_here : (x : CpuView) (l : List NumberedCount) (t n : ℕ) → NetAgree x l → 0 < n → (place_at l t).number ≡ n → IsPlaceCount x t n (place_at l t).count
@@ -312,22 +313,3 @@ has_come_back x j k l v r c n w count depth m is_id empty joined off made cut fi
       is = back.is;
       found = subst (λ (p : ℕ × CpuView × CpuView). Makes (CountDown p.0) Collected (Cpu p.1) (Cpu p.2)) (λ i. (id i, joined i, ended i)) made.0;
     }
-
--- Whether the last found entry is the one with that number, by what is kept of it.
-
-pub is_last : (x : CpuView) (k : Found) (n : ℕ) → IsFoundAs x k → k.number ≡ n → IsLastFound x n
-is_last x k n kept same = (kept.entry, kept.found, sym kept.number ∙ same)
-
-one_found : (e f : Entry) → ◌≡◌ {A = Option Entry} (Some e) (Some f) → e ≡ f
-one_found e f same = cc
-
-none_found : (e : Entry) → ◌≡◌ {A = Option Entry} None (Some e) → ⊥
-none_found e wrong = cc
-
-pub not_last : (x : CpuView) (k : Found) (n : ℕ) → IsFoundAs x k → (k.number ≡ n → ⊥) → IsLastFound x n → ⊥
-not_last x k n kept off last =
-    let one : kept.entry ≡ last.0 = one_found kept.entry last.0 (sym kept.found ∙ last.1) in
-    off (kept.number ∙ (ap (λ (e : Entry). e.number) one ∙ last.2))
-
-pub none_last : (x : CpuView) (n : ℕ) → x.found ≡ None → IsLastFound x n → ⊥
-none_last x n none last = none_found last.0 (sym none ∙ last.1)

@@ -1,4 +1,6 @@
 -- Local references: what a CPU's calls leave.
+pub mod Draining
+pub mod References
 use Rattle.std.specs.Prelude.{◌≡◌, ◌⊎◌, ℕ, ◌+◌, ◌-◌, ◌++◌, ◌==◌, if◌then◌else◌, Option, Some, None, Result, Err, IfErr}
 use Rattle.passive_list.specs.Types.{Entry, Key, Refusal, NothingFound, CountAdd, CountDown, JoinRef, SplitBack, SplitRef, Collected, Done, Ref, Word, CpuView, ReferenceView, Cpu}
 use Rattle.registry_values.specs.declared.refusal.Refusal.TheVariants.{NotFound}
@@ -6,7 +8,7 @@ use Rattle.registry_values.specs.Common.{why_uncounted, Answers, bias}
 use Rattle.cpu_words.specs.declared.view.InHand.TheVariants.{Giving as GivingEntry, Back as BackEntry}
 use Rattle.cpu_words.specs.Common.{number_at, with_number, one_more, did, Makes, with_hand}
 use Rattle.passive_list.specs.declared.place.NumberedCount.{NumberedCount}
-use Rattle.passive_list.specs.Common.{FindsInside, OnCpu}
+use Rattle.passive_list.specs.Common.{FindsInside, IsFoundLast, OnCpu}
 use Rattle.passive_list.specs.declared.lookup.Seen.{Seen}
 
 -- a number's net count by the place of its slot, over the bias: none where the place is for another number
@@ -39,24 +41,20 @@ pub record AnswersAcquireLocal {X : Type 0} (a b : OnCpu) (r : Result X Refusal)
 
 -- An acquire of the entry n, and of no other one: of the last found entry, or of the one that a lookup finds.
 
--- the last found entry is n
-abbrev pub IsLastFound : CpuView → ℕ → Type 0
-IsLastFound x n = (e : Entry) × (x.found ≡ Some e) × (e.number ≡ n)
-
 -- it is acquired, unless the CPU's own count is at the limit
 pub record AcquiresLastLocal {X : Type 0} (n : ℕ) (a b : OnCpu) (r : Result X Refusal) (of : X → ReferenceView) : Type 0 where
-  pub last : IsLastFound a.view n
+  pub last : IsFoundLast a.view n
   pub answer : AnswersAcquireLocal a b r of
 
 -- it isn't n
 pub record AcquiresNoLocal {X : Type 0} (n : ℕ) (a b : OnCpu) (r : Result X Refusal) : Type 0 where
-  pub other : IsLastFound a.view n → ⊥
+  pub other : IsFoundLast a.view n → ⊥
   pub answer : r ≡ Err NotFound
   pub same : b ≡ a
 
 -- The last found entry isn't n. A lookup for the key leaves the CPU as c. Then it is the last found one, or it isn't.
 pub record AcquiresSoughtLocal {X : Type 0} (n : ℕ) (key : Key) (a b : OnCpu) (r : Result X Refusal) (of : X → ReferenceView) : Type 0 where
-  pub other : IsLastFound a.view n → ⊥
+  pub other : IsFoundLast a.view n → ⊥
   pub c : OnCpu
   pub seen : Option Seen
   pub finds : FindsInside key a c seen

@@ -1,13 +1,15 @@
 //! Acquiring and releasing a local reference by a CPU's own count (localcount(9)).
 
-ghost use Rattle.std.specs.Prelude.{◌≡◌, ◌≢◌, ◌<◌, IfOk, IfSome, IsTrue, IfErr, None, Ok, false};
-ghost use Rattle.local_count.specs.{net_by, AcquiresEntryLocal, AcquiresLastLocal, AcquiresSoughtLocal, AnswersAcquireLocal, IsLastFound, why_not_acquired_local, HasReleased, HasComeBack};
+ghost use Rattle.std.specs.Prelude.{◌≡◌, ◌≢◌, ◌<◌, IfOk, IfSome, IsTrue, IfErr, None, Ok};
+ghost use Rattle.local_count.specs.{net_by, AcquiresEntryLocal, AcquiresLastLocal, AcquiresSoughtLocal, AnswersAcquireLocal, why_not_acquired_local, HasReleased, HasComeBack};
+ghost use Rattle.passive_list.specs.Common.{IsFoundLast};
 ghost use Rattle.registry_values.specs.Common.{are_fit};
 ghost use Rattle.cpu_words.specs.Common.{AreWordsOf, key_with};
 
 use crate::local_ref::LocalRef;
+use crate::plain_ref::PlainRef;
 use cpu_words::{Domain, Words, steps};
-use passive_list::{Cpu, NumberedCount, PlainCpu, PlainRef, find_inside_on};
+use passive_list::{Cpu, NumberedCount, PlainCpu, find_inside_on, is_found_last, is_open_last};
 use registry_values::{BIAS, Kind, Name, Refusal, why_uncounted};
 use std::marker::PhantomData;
 
@@ -115,7 +117,7 @@ pub fn acquire_entry_local(
     ensures slot { IfOk result (λ v. v.reference.entry.slot < cpu.old.words.settings.slots) }
     ensures words { cpu.new.words ≡ cpu.old.words }
 {
-    if is_last_found(cpu, number) {
+    if is_found_last(cpu, number) {
         return acquire_local_on(words, cpu);
     }
     acquire_sought(words, cpu, number, kind, name)
@@ -132,40 +134,17 @@ fn acquire_sought(
 ) -> Result<PlainRef, Refusal>
     requires words { AreWordsOf words.now cpu.old.words.table cpu.old.words.settings }
     requires inside { cpu.old.cpu.view.begin ≢ None }
-    requires other { IsLastFound cpu.old.cpu.view number → ⊥ }
+    requires other { IsFoundLast cpu.old.cpu.view number → ⊥ }
     ensures sought { AcquiresSoughtLocal number (key_with kind name) cpu.old.cpu cpu.new.cpu result (λ v. v.reference) }
     ensures table { IfOk result (λ v. v.table ≡ cpu.old.words.table) }
     ensures slot { IfOk result (λ v. v.reference.entry.slot < cpu.old.words.settings.slots) }
     ensures words { cpu.new.words ≡ cpu.old.words }
 {
     find_inside_on(words, cpu, kind, name);
-    if is_last_found(cpu, number) {
+    if is_found_last(cpu, number) {
         return acquire_local_on(words, cpu);
     }
     Err(Refusal::NotFound)
-}
-
-/// Whether the CPU's last found entry is the one with that number.
-#[inline(always)]
-fn is_last_found(cpu: &PlainCpu, number: u64) -> bool
-    ensures yes { IsTrue result → IsLastFound cpu.now.cpu.view number }
-    ensures no { result ≡ false → IsLastFound cpu.now.cpu.view number → ⊥ }
-{
-    let found = cpu.found;
-    if found.number == 0 {
-        return false;
-    }
-    found.number == number
-}
-
-/// Whether it is the one with that number, which is no entry's if it is 0. A CPU that has a last found entry is inside.
-#[inline(always)]
-fn is_open_last(cpu: &PlainCpu, number: u64) -> bool
-    requires begun { number ≢ 0 }
-    ensures yes { IsTrue result → IsLastFound cpu.now.cpu.view number }
-    ensures inside { IsTrue result → cpu.now.cpu.view.begin ≢ None }
-{
-    number == cpu.found.number
 }
 
 /// Why a CPU that names its own table may not acquire a local reference now, as `acquire_local` has it. Condition: the words are its table's.

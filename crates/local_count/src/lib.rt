@@ -7,14 +7,23 @@
 //! to be released under the interlock.
 #![tactic(auto)]
 
+mod collecting;
 mod counting;
+mod freeing;
+mod giving_up;
+mod keeping;
 mod local_ref;
+mod plain_ref;
+mod replacing;
 
+pub use collecting::{collect, collected, total};
 pub use counting::{
     acquire_entry_local, acquire_last_local, acquire_local, acquire_local_on, net_count,
     try_release, try_release_on, why_not_acquired_local,
 };
+pub use freeing::free_iface;
+pub use giving_up::release_under;
+pub use keeping::publish_iface;
 pub use local_ref::LocalRef;
-pub use passive_list::{
-    PlainRef, collect, collected, free_iface, publish_iface, release_under, replace_iface, total,
-};
+pub use plain_ref::PlainRef;
+pub use replacing::replace_iface;

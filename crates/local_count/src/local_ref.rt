@@ -3,8 +3,8 @@
 ghost use Rattle.std.specs.Prelude.{◌≡◌};
 ghost use Rattle.cpu_words.specs.Common.{AreWordsOf};
 
+use crate::plain_ref::PlainRef;
 use cpu_words::{Domain, Words};
-use passive_list::PlainRef;
 use registry_values::{Kind, Record};
 use std::marker::{Model, PhantomData};
 

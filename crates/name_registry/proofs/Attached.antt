@@ -15,8 +15,9 @@ use Rattle.protocol.proofs.Cells.{position_fails}
 use Rattle.protocol.proofs.Occupied.{in_within, live_one}
 use Rattle.cpu_words.specs.Common.{did}
 use Rattle.cpu_words.proofs.by_keeper.KeeperSteps.{seen_by_keeper}
-use Rattle.passive_list.specs.Common.{OnCpu, OnKeeper, HasHeardOn, cpu_after_tell, has_heard, HasAttached, HasAttachedKeeping, states_of, IsOurKeeper, HasDetached, LogsDetach}
+use Rattle.passive_list.specs.Common.{OnCpu, OnKeeper, HasHeardOn, cpu_after_tell, has_heard, HasAttached, states_of, IsOurKeeper, HasDetached, LogsDetach}
 use Rattle.passive_list.proofs.Attached.{keeping_more, rows_live, live_rows}
+use Rattle.local_count.specs.Draining.{HasAttachedKeeping}
 use Rattle.name_registry.specs.Common.{given_entry, first_fit, room_of, keeper_after_hear, keeper_after_tell, HasSeenAttach, IsDetachRefusal, IsLookupNow, IsLivePlace, HasDetachedFor, is_inside}
 use Rattle.name_registry.proofs.Noted.{seen_attach, heard_told, met, seen_detach}
 

@@ -1,15 +1,18 @@
 -- The ledger of changes: what weighs as much as one change, how a CPU's share grows, and a CPU that has a share.
-use Rattle.std.proofs.Common.{leb-true, ◌≡◌, ◌*◌, ◌<◌, ◌≤◌, List, [], ◌∷◌, refl, arith, ◌∙◌, ⊎_elim, ℕ, zero, suc, ◌+◌, Bool, true, false, length, Option, Some, None, Result, Ok, Err, sym, ap, subst}
+use Rattle.std.proofs.Common.{leb-true, ◌≡◌, ◌*◌, ◌<◌, ◌≤◌, List, [], ◌∷◌, refl, arith, ◌∙◌, ⊎_elim, ℕ, zero, suc, ◌+◌, Bool, true, false, length, Option, Result, Ok, Err, sym, ap, subst}
 use Rattle.std.proofs.lemmas.List.Sums.{sum_by-cons}
 use Rattle.name_registry.specs.Types.{Change, Attach, Detach, Replace, MOST_CHANGES, Entry, Record, Refusal, Settings, Stage, Grace, Passive, Local, Freed, Key, MOST_SLOTS, KeeperView, ReferenceView, KeptSlot, Room}
 use Rattle.registry_values.specs.Common.{is_iface, is_retired_as, slot_at}
 use Rattle.registry_values.specs.Answers as answers
 use Rattle.registry_values.proofs.Answers.{attach_tells}
 use Rattle.registry_values.proofs.Fit.{ranges}
-use Rattle.passive_list.specs.Common.{OnCpu, IsOurKeeper, OnKeeper, HasHeardOn, HasFreed}
+use Rattle.passive_list.specs.Common.{OnCpu, IsOurKeeper, OnKeeper, HasHeardOn}
 use Rattle.passive_list.proofs.Sharing.{sharing}
-use Rattle.name_registry.specs.Common.{WeightsTell, number_of, unit, weigh, weight, HasAdvanced, HasEnded, HasWorkedFor, Meets, attach_answer, attach_iface_answer, given_entry, HasMade, HasAdvancedFor, IsDetachAnswer, HasLearned, HasSeenAttach, HasSeenDetach, keeper_after_hear, is_inside, GlancesBelow, HasBegun, HasGlanced, HasPassedAll, Hold, Looking, PassesBelow, PassesIf, SnapshotsBelow, HasAttachedFor, HasAttachedIfaceFor, HasDetachedFor, HasReplacedFor, HasReplacedIfaceFor, HasSeenReplace, IsReplaceAnswer, HasGivenUpFor, first_fit, fit_slot, room_of, PassesEntry}
+use Rattle.local_count.specs.Draining.{HasFreed}
+use Rattle.name_registry.specs.Common.{WeightsTell, number_of, unit, weigh, weight, attach_answer, attach_iface_answer, given_entry, HasMade, IsDetachAnswer, HasLearned, HasSeenAttach, HasSeenDetach, keeper_after_hear, is_inside, HasAttachedFor, HasAttachedIfaceFor, HasDetachedFor, HasReplacedFor, HasReplacedIfaceFor, HasSeenReplace, IsReplaceAnswer, HasGivenUpFor, first_fit, fit_slot, room_of}
 use Rattle.name_registry.specs.Changes.{AreAlike}
+use Rattle.name_registry.specs.Performing
+use Rattle.name_registry.specs.Destroying
 use Rattle.name_registry.proofs.Passed.{OnlyLooked, snapshots_look, glances_look}
 use Rattle.name_registry.proofs.Attached.{given_takes}
 use Rattle.name_registry.proofs.Replaced.{fit_tells}
@@ -115,51 +118,51 @@ Unchanged a b = b.view.history ≡ a.view.history
 pub still_booked : (total : ℕ) (a b : OnKeeper) → total ≡ weigh a.view.history → b.view.history ≡ a.view.history → total ≡ weigh b.view.history
 still_booked total a b was same = was ∙ sym (ap weigh same)
 
-worked_same : (a : OnKeeper) (t : ℕ) (b : OnKeeper) → HasWorkedFor a t b → Unchanged a b
+worked_same : (a : OnKeeper) (t : ℕ) (b : OnKeeper) → Destroying.HasWorkedFor a t b → Unchanged a b
 worked_same a t b has = ap (λ (k : KeeperView). k.history) has.only
 
 freed_same : (a : OnKeeper) (t : ℕ) (b : OnKeeper) → HasFreed a t b → Unchanged a b
 freed_same a t b has = ap (λ (k : KeeperView). k.history) has.view.2
 
-ended_same : (m : OnKeeper) (t : ℕ) (b : OnKeeper) → HasEnded m t b → Unchanged m b
+ended_same : (m : OnKeeper) (t : ℕ) (b : OnKeeper) → Destroying.HasEnded m t b → Unchanged m b
 ended_same m t b ended = ⊎_elim (λ e. ap (λ (k : KeeperView). k.history) e.1.view) (freed_same m t b) ended
 
-meets_same : (a : OnKeeper) (t : ℕ) (stage : Stage) (b : OnKeeper) → Meets a t stage b → Unchanged a b
+meets_same : (a : OnKeeper) (t : ℕ) (stage : Stage) (b : OnKeeper) → Destroying.Meets a t stage b → Unchanged a b
 meets_same a t (Grace c) b has = worked_same a t b has.leaves.worked
 meets_same a t (Passive c) b has = worked_same a t b has.leaves.worked
 meets_same a t (Local n) b has = worked_same a t b has.leaves
 meets_same a t (Freed u) b has = ended_same has.1.between t b has.1.ended ∙ worked_same a t has.1.between has.1.leaves
 
-pub advanced_same : (a : OnKeeper) (n : ℕ) (r : Result Stage Refusal) (b : OnKeeper) → HasAdvanced a n r b → Unchanged a b
+pub advanced_same : (a : OnKeeper) (n : ℕ) (r : Result Stage Refusal) (b : OnKeeper) → Destroying.HasAdvanced a n r b → Unchanged a b
 advanced_same a n (Ok stage) b has = meets_same a has.0 stage b has.2
 advanced_same a n (Err f) b has = ap (λ (k : OnKeeper). k.view.history) has.2
 
-pub advanced_for_same : (z : Settings) (a : OnKeeper) (x : OnCpu) (n : ℕ) (r : Result Stage Refusal) (b : OnKeeper) (y : OnCpu) → HasAdvancedFor z a x n r b y → Unchanged a b
+pub advanced_for_same : (z : Settings) (a : OnKeeper) (x : OnCpu) (n : ℕ) (r : Result Stage Refusal) (b : OnKeeper) (y : OnCpu) → Destroying.HasAdvancedFor z a x n r b y → Unchanged a b
 advanced_for_same z a x n r b y has = ap (λ (k : OnKeeper). k.view.history) has.is ∙ advanced_same (keeper_after_hear a x) n r has.end has.made
 
 -- a hold whose looks leave the history
-hold_same : (looks : Looking → Looking → Type 0) (a : OnKeeper) (x : OnCpu) (b : OnKeeper) (y : OnCpu) → ((k l : Looking) → looks k l → OnlyLooked k.view l.view) → Hold looks a x b y → Unchanged a b
+hold_same : (looks : Performing.Looking → Performing.Looking → Type 0) (a : OnKeeper) (x : OnCpu) (b : OnKeeper) (y : OnCpu) → ((k l : Performing.Looking) → looks k l → OnlyLooked k.view l.view) → Performing.Hold looks a x b y → Unchanged a b
 hold_same looks a x b y only has = ap (λ (k : KeeperView). k.history) has.view ∙ ap (λ (k : KeeperView). k.history) (only _ has.end has.made)
 
-pub begun_same : (z : Settings) (a : OnKeeper) (x : OnCpu) (snapshots retired : List ℕ) (b : OnKeeper) (y : OnCpu) → HasBegun z a x snapshots retired b y → Unchanged a b
-begun_same z a x snapshots retired b y has = hold_same (SnapshotsBelow snapshots z.cpus) a x b y (λ k l is. snapshots_look snapshots z.cpus k l is) has.hold
+pub begun_same : (z : Settings) (a : OnKeeper) (x : OnCpu) (snapshots retired : List ℕ) (b : OnKeeper) (y : OnCpu) → Performing.HasBegun z a x snapshots retired b y → Unchanged a b
+begun_same z a x snapshots retired b y has = hold_same (Performing.SnapshotsBelow snapshots z.cpus) a x b y (λ k l is. snapshots_look snapshots z.cpus k l is) has.hold
 
 pub glanced_same : (z : Settings) (snapshots : List ℕ) (a : OnKeeper) (x : OnCpu) (seen : List Bool) (told : Option ℕ) (after : List Bool) (b : OnKeeper) (y : OnCpu)
-    → HasGlanced z snapshots a x seen told after b y → Unchanged a b
-glanced_same z snapshots a x seen told after b y has = hold_same (GlancesBelow snapshots seen after z.cpus) a x b y (λ k l is. glances_look snapshots seen after z.cpus k l is) has.hold
+    → Performing.HasGlanced z snapshots a x seen told after b y → Unchanged a b
+glanced_same z snapshots a x seen told after b y has = hold_same (Performing.GlancesBelow snapshots seen after z.cpus) a x b y (λ k l is. glances_look snapshots seen after z.cpus k l is) has.hold
 
-passes_if_same : (still : Bool) (z : Settings) (a : OnKeeper) (t : ℕ) (b : OnKeeper) → PassesIf still z a t b → Unchanged a b
+passes_if_same : (still : Bool) (z : Settings) (a : OnKeeper) (t : ℕ) (b : OnKeeper) → Performing.PassesIf still z a t b → Unchanged a b
 passes_if_same true z a t b has = worked_same a t b has.leaves.worked
 passes_if_same false z a t b is = ap (λ (k : OnKeeper). k.view.history) is
 
-passes_entry_same : (z : Settings) (a : OnKeeper) (t n : ℕ) (b : OnKeeper) → PassesEntry z a t n b → Unchanged a b
+passes_entry_same : (z : Settings) (a : OnKeeper) (t n : ℕ) (b : OnKeeper) → Performing.PassesEntry z a t n b → Unchanged a b
 passes_entry_same z a t n b is = passes_if_same (is_retired_as n (slot_at a.slots t)) z a t b is
 
-passes_same : (z : Settings) (numbers : List ℕ) (n : ℕ) (a b : OnKeeper) → PassesBelow z numbers n a b → Unchanged a b
+passes_same : (z : Settings) (numbers : List ℕ) (n : ℕ) (a b : OnKeeper) → Performing.PassesBelow z numbers n a b → Unchanged a b
 passes_same z numbers zero a b is = ap (λ (k : OnKeeper). k.view.history) is
 passes_same z numbers (suc n) a b is = passes_entry_same z is.0 n _ b is.2 ∙ passes_same z numbers n a is.0 is.1
 
-pub passed_same : (z : Settings) (a : OnKeeper) (x : OnCpu) (numbers : List ℕ) (b : OnKeeper) (y : OnCpu) → HasPassedAll z a x numbers b y → Unchanged a b
+pub passed_same : (z : Settings) (a : OnKeeper) (x : OnCpu) (numbers : List ℕ) (b : OnKeeper) (y : OnCpu) → Performing.HasPassedAll z a x numbers b y → Unchanged a b
 passed_same z a x numbers b y has = ap (λ (k : OnKeeper). k.view.history) has.is ∙ passes_same z numbers MOST_SLOTS (keeper_after_hear a x) has.end has.passes
 
 -- A CPU that has a share of a ledger, and the CPU without it: what is told of the one is told of the other.
@@ -167,20 +170,20 @@ passed_same z a x numbers b y has = ap (λ (k : OnKeeper). k.view.history) has.i
 heard : (m : ℕ) (h : List Change) (x y : OnCpu) → HasHeardOn h x y → HasHeardOn h (sharing m x) (sharing m y)
 heard m h x y had = assumption (ap (sharing m) had.is)
 
-hold : (m : ℕ) (looks : Looking → Looking → Type 0) (a : OnKeeper) (x : OnCpu) (b : OnKeeper) (y : OnCpu) → Hold looks a x b y → Hold looks a (sharing m x) b (sharing m y)
+hold : (m : ℕ) (looks : Performing.Looking → Performing.Looking → Type 0) (a : OnKeeper) (x : OnCpu) (b : OnKeeper) (y : OnCpu) → Performing.Hold looks a x b y → Performing.Hold looks a (sharing m x) b (sharing m y)
 hold m looks a x b y had = search (had.known, had.seen, had.made, had.view, had.slots, had.log, heard m _ x y had.hears, had.told, had.cpu_log)
 
-pub begun : (m : ℕ) (z : Settings) (a : OnKeeper) (x : OnCpu) (snapshots retired : List ℕ) (b : OnKeeper) (y : OnCpu) → HasBegun z a x snapshots retired b y
-    → HasBegun z a (sharing m x) snapshots retired b (sharing m y)
+pub begun : (m : ℕ) (z : Settings) (a : OnKeeper) (x : OnCpu) (snapshots retired : List ℕ) (b : OnKeeper) (y : OnCpu) → Performing.HasBegun z a x snapshots retired b y
+    → Performing.HasBegun z a (sharing m x) snapshots retired b (sharing m y)
 begun m z a x snapshots retired b y had = record { own = had.own; hold = hold m _ a x b y had.hold; numbers = had.numbers }
 
 pub glanced : (m : ℕ) (z : Settings) (snapshots : List ℕ) (a : OnKeeper) (x : OnCpu) (seen : List Bool) (told : Option ℕ) (after : List Bool) (b : OnKeeper) (y : OnCpu)
-    → HasGlanced z snapshots a x seen told after b y
-    → HasGlanced z snapshots a (sharing m x) seen told after b (sharing m y)
+    → Performing.HasGlanced z snapshots a x seen told after b y
+    → Performing.HasGlanced z snapshots a (sharing m x) seen told after b (sharing m y)
 glanced m z snapshots a x seen told after b y had = record { hold = hold m _ a x b y had.hold; least = had.least }
 
-pub passed : (m : ℕ) (z : Settings) (a : OnKeeper) (x : OnCpu) (numbers : List ℕ) (b : OnKeeper) (y : OnCpu) → HasPassedAll z a x numbers b y
-    → HasPassedAll z a (sharing m x) numbers b (sharing m y)
+pub passed : (m : ℕ) (z : Settings) (a : OnKeeper) (x : OnCpu) (numbers : List ℕ) (b : OnKeeper) (y : OnCpu) → Performing.HasPassedAll z a x numbers b y
+    → Performing.HasPassedAll z a (sharing m x) numbers b (sharing m y)
 passed m z a x numbers b y had = record { known = had.known; end = had.end; passes = had.passes; own = had.own; is = had.is; hears = heard m _ x y had.hears; told = had.told; cpu_log = had.cpu_log }
 
 pub attached : (m : ℕ) (a : OnKeeper) (x : OnCpu) (e : Entry) (b : OnKeeper) (y : OnCpu) → HasAttachedFor a x e b y → HasAttachedFor a (sharing m x) e b (sharing m y)
@@ -205,8 +208,8 @@ pub iface_replaced : (m : ℕ) (a : OnKeeper) (x : OnCpu) (v : ReferenceView) (f
     → HasReplacedIfaceFor a (sharing m x) v f e b (sharing m y)
 iface_replaced m a x v f e b y had = assumption (seen_replaced m x y f e had.own, heard m _ x y had.cpu)
 
-pub advanced : (m : ℕ) (z : Settings) (a : OnKeeper) (x : OnCpu) (n : ℕ) (answer : Result Stage Refusal) (b : OnKeeper) (y : OnCpu) → HasAdvancedFor z a x n answer b y
-    → HasAdvancedFor z a (sharing m x) n answer b (sharing m y)
+pub advanced : (m : ℕ) (z : Settings) (a : OnKeeper) (x : OnCpu) (n : ℕ) (answer : Result Stage Refusal) (b : OnKeeper) (y : OnCpu) → Destroying.HasAdvancedFor z a x n answer b y
+    → Destroying.HasAdvancedFor z a (sharing m x) n answer b (sharing m y)
 advanced m z a x n answer b y had = search (had.known, had.seen, had.own, had.made, had.own_end, had.is, heard m _ x y had.hears, had.told, had.cpu_log)
 
 pub given_up : (m : ℕ) (a : OnKeeper) (x : OnCpu) (v : ReferenceView) (b : OnKeeper) (y : OnCpu) → HasGivenUpFor a x v b y → HasGivenUpFor a (sharing m x) v b (sharing m y)

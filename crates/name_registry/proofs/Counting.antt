@@ -1,10 +1,11 @@
 -- A get of a local reference, by what its calls leave.
-use Rattle.std.proofs.Common.{◌≡◌, ◌≢◌, ◌∙◌, inl, inr, ℕ, Option, Some, None, Result, Ok, Err, IfErr, refl, sym, ap, subst}
+use Rattle.std.proofs.Common.{◌≡◌, ◌≢◌, ℕ, Option, Some, None, Result, Ok, Err, refl, ap}
 use Rattle.name_registry.specs.Types.{Key, NotFound, ReferenceView, Refusal, Seen}
 use Rattle.local_count.specs.{AnswersAcquireLocal}
-use Rattle.passive_list.specs.Common.{AnswersEnter, FindsInside, HasExitedOn, HasFoundKept, HasRecalledInVain, OnCpu, OnPlainRef}
-use Rattle.passive_list.proofs.Sharing.{sharing}
-use Rattle.name_registry.specs.Common.{CountsInSection, FindsAndCounts, GetsLocal}
+use Rattle.local_count.specs.References.{OnPlainRef}
+use Rattle.passive_list.specs.Common.{AnswersEnter, FindsInside, HasExitedOn, OnCpu}
+use Rattle.passive_list.proofs.Sharing.{sharing, entered, found_inside}
+use Rattle.name_registry.specs.Common.{FindsAndCounts, GetsLocal}
 
 -- A find, and an acquire
 
@@ -62,17 +63,6 @@ gets_outside key a first last b r outside enters had exits = record {
 
 -- For a CPU that has a share of a ledger
 
-kept : (m : ℕ) (key : Key) (a b : OnCpu) (answer : Option Seen) → HasFoundKept key a b answer → HasFoundKept key (sharing m a) (sharing m b) answer
-kept m key a b answer had = record { left = sharing m had.left; finds = assumption (ap (sharing m) had.finds.is, had.finds); is = ap (sharing m) had.is; remembers = had.remembers }
-
-vain : (m : ℕ) (s : Seen) (a b : OnCpu) → HasRecalledInVain s a b → HasRecalledInVain s (sharing m a) (sharing m b)
-vain m s a b had = record { pass = had.pass; is = ap (sharing m) had.is; word = had.word; other = had.other; log = had.log }
-
-finds_shared : (m : ℕ) (key : Key) (a b : OnCpu) (seen : Option Seen) → FindsInside key a b seen → FindsInside key (sharing m a) (sharing m b) seen
-finds_shared m key a b seen (None, at, had) = (None, at, kept m key a b seen had)
-finds_shared m key a b seen (Some s, at, inl had) = (Some s, at, inl (had.0, assumption (ap (sharing m) had.1.is, had.1)))
-finds_shared m key a b seen (Some s, at, inr had) = (Some s, at, inr (sharing m had.0, vain m s a had.0 had.1, kept m key had.0 b seen had.2))
-
 acquires_shared : (m : ℕ) (a b : OnCpu) (r : Result ReferenceView Refusal) → AnswersAcquireLocal a b r (λ v. v) → AnswersAcquireLocal (sharing m a) (sharing m b) r (λ v. v)
 acquires_shared m a b (Ok x) had = record {
   answer = (had.answer.0, let it = had.answer.1 in record { entry = it.entry; found = it.found; is = it.is; cpu = ap (sharing m) it.cpu });
@@ -84,14 +74,10 @@ counts_shared : (m : ℕ) (key : Key) (a b : OnCpu) (r : Result ReferenceView Re
 counts_shared m key a b r had = record {
   found = had.found;
   middle = sharing m had.middle;
-  finds = finds_shared m key a had.middle had.found had.finds;
+  finds = found_inside m key a had.middle had.found had.finds;
   none = λ none. ((had.none none).0, ap (sharing m) (had.none none).1);
   some = λ some. acquires_shared m had.middle b r (had.some some);
 }
-
-enters_shared : (m : ℕ) (a b : OnCpu) (r : Result (Unit {0}) Refusal) → AnswersEnter a b r → AnswersEnter (sharing m a) (sharing m b) r
-enters_shared m a b (Ok t) had = record { answer = (had.answer.0, assumption had.answer.1); refused = tt }
-enters_shared m a b (Err f) had = record { answer = had.answer; refused = ap (sharing m) had.refused }
 
 pub gets_shared : (m : ℕ) (key : Key) (a b : OnCpu) (r : Result ReferenceView Refusal) → GetsLocal key a b r → GetsLocal key (sharing m a) (sharing m b) r
 gets_shared m key a b r had = record {
@@ -99,7 +85,7 @@ gets_shared m key a b r had = record {
   outside = λ outside. let own = had.outside outside in record {
     first = sharing m own.first;
     entered = own.entered;
-    enters = enters_shared m a own.first own.entered own.enters;
+    enters = entered m a own.first own.entered own.enters;
     refused = λ f is. ((own.refused f is).0, ap (sharing m) (own.refused f is).1);
     inside = λ is. let in_it = own.inside is in (sharing m in_it.0, counts_shared m key own.first in_it.0 r in_it.1, assumption in_it.2);
   };

@@ -16,10 +16,12 @@ use Rattle.cpu_words.proofs.by_keeper.KeeperSteps.{seen_by_keeper}
 use Rattle.cpu_words.proofs.logs.Slots.{not_attached}
 use Rattle.cpu_words.proofs.laws.Freed.{ended_runs}
 use Rattle.cpu_words.proofs.shown.Seeing.{prefix_both}
-use Rattle.passive_list.specs.Common.{OnCpu, OnKeeper, HasOwnLog, HasHeardOn, as_teller, cpu_after_tell, has_heard, has_told, HasFreed}
-use Rattle.name_registry.specs.Common.{EndsIn, HasAdvanced, HasEnded, Meets, MeetsGrace, MeetsLocal, MeetsPassive, HasAdvancedFor, hears_cpu, keeper_after_hear, keeper_after_tell, AnswersBy, HasMet, IsNotRetired, IsRetiredIn, IsTurn, MetLocals, MetReference, MetSection, IsGoneIfFreed, Destroys, DestroysOutside, HasDestroyed, LastMeeting, SomeAdvancedFor, TurnsMeeting, IsDestroyRefusal, HasLearned, IsDestroyAnswer, ClosesRun, StaysGoneBy, tells_and_hears}
-use Rattle.name_registry.proofs.Noted.{heard_told_again, met_again, prefix_short, learned, by_meeting_again}
-use Rattle.name_registry.proofs.Worked.{prefix_on}
+use Rattle.passive_list.specs.Common.{OnCpu, OnKeeper, HasOwnLog, HasHeardOn, as_teller, cpu_after_tell, has_heard, has_told}
+use Rattle.passive_list.proofs.Walking.{prefix_length}
+use Rattle.local_count.specs.Draining.{HasFreed}
+use Rattle.name_registry.specs.Common.{EndsIn, HasAdvanced, HasEnded, Meets, HasAdvancedFor, hears_cpu, keeper_after_hear, keeper_after_tell, AnswersBy, IsNotRetired, IsRetiredIn, IsTurn, IsGoneIfFreed, Destroys, DestroysOutside, HasDestroyed, LastMeeting, SomeAdvancedFor, TurnsMeeting, IsDestroyRefusal, HasLearned, IsDestroyAnswer, ClosesRun, StaysGoneBy, tells_and_hears}
+use Rattle.name_registry.specs.Destroying
+use Rattle.name_registry.proofs.Noted.{heard_told_again, met_again, learned, by_meeting_again}
 use Rattle.name_registry.proofs.Waited.{Learns, learns_none, learns_more}
 
 -- What a turn of a destroy tells the caller's CPU, by the keeper's log.
@@ -43,19 +45,19 @@ not_retired z a n own none t is = by (slot_at a.slots t) refl
 
 -- the last item is the one that ends the log, and was made since the turn began
 ends_in : (begin old new : List LogItem) (d : LogItem) → IsPrefix begin old → EndsIn old d new → (before : List LogItem) × IsPrefix begin before × (new ≡ before ++ d ∷ [])
-ends_in begin old new d from ends = (old ++ ends.0, prefix_on _ _ _ from (ends.0, refl), ends.1)
+ends_in begin old new d from ends = (old ++ ends.0, prefix_both _ _ _ from (ends.0, refl), ends.1)
 
-met_section : (z : Settings) (a b : OnKeeper) (t c : ℕ) (begin : List LogItem) → HasOwnLog z b → IsPrefix begin a.log → MeetsGrace a t c b → MetSection t c begin b.log
+met_section : (z : Settings) (a b : OnKeeper) (t c : ℕ) (begin : List LogItem) → HasOwnLog z b → IsPrefix begin a.log → Destroying.MeetsGrace a t c b → Destroying.MetSection t c begin b.log
 met_section z a b t c begin own from meets =
     let last = ends_in begin a.log b.log (has_looked t c meets.sees.word) from meets.sees.log in
     search (last.1, last.2, meets.sees.odd, own.marks.snapped t c meets.sees.word meets.sees.snapshot, λ (d : ℕ) (lt : d < c). own.marks.passed t d (meets.lesser d lt))
 
-met_reference : (z : Settings) (a b : OnKeeper) (t c : ℕ) (begin : List LogItem) → HasOwnLog z b → IsPrefix begin a.log → MeetsPassive a t c b → MetReference z.cpus t c begin b.log
+met_reference : (z : Settings) (a b : OnKeeper) (t c : ℕ) (begin : List LogItem) → HasOwnLog z b → IsPrefix begin a.log → Destroying.MeetsPassive a t c b → Destroying.MetReference z.cpus t c begin b.log
 met_reference z a b t c begin own from meets =
     let last = ends_in begin a.log b.log (has_looked_passive t c meets.sees.word) from meets.sees.log in
     search (last.1, last.2, meets.sees.some, λ (d : ℕ) (lt : d < z.cpus). own.marks.passed t d (meets.passed d (subst (λ (s : Settings). d < s.cpus) (sym own.settings) lt)))
 
-met_locals : (z : Settings) (a b : OnKeeper) (t n k : ℕ) (e : Entry) → HasOwnLog z b → slot_at a.slots t ≡ Retired e → e.number ≡ n → MeetsLocal a t k b → MetLocals z.cpus t n k b.log
+met_locals : (z : Settings) (a b : OnKeeper) (t n k : ℕ) (e : Entry) → HasOwnLog z b → slot_at a.slots t ≡ Retired e → e.number ≡ n → Destroying.MeetsLocal a t k b → Destroying.MetLocals z.cpus t n k b.log
 met_locals z a b t n k e own at same meets =
     let s = own.counts.1 in
     let g : State = s.g in
@@ -80,7 +82,7 @@ pub ended_freed : (m : OnKeeper) (t : ℕ) (b : OnKeeper) (e : Entry) → HasEnd
 ended_freed m t b e ended at = ⊎_elim (λ v. v.1.freed e at) (λ (f : HasFreed m t b). f.freed e at) ended
 
 has_met : (z : Settings) (a b : OnKeeper) (t n : ℕ) (e : Entry) (begin : List LogItem) (stage : Stage) → HasOwnLog z b → IsPrefix begin a.log → slot_at a.slots t ≡ Retired e → e.number ≡ n
-    → Meets a t stage b → HasMet z.cpus t n stage begin b.log
+    → Meets a t stage b → Destroying.HasMet z.cpus t n stage begin b.log
 has_met z a b t n e begin (Grace c) own from at same meets = met_section z a b t c begin own from meets
 has_met z a b t n e begin (Passive c) own from at same meets = met_reference z a b t c begin own from meets
 has_met z a b t n e begin (Local k) own from at same meets = met_locals z a b t n k e own at same meets
@@ -99,7 +101,7 @@ meets_on : (a : OnKeeper) (t : ℕ) (stage : Stage) (b : OnKeeper) → Meets a t
 meets_on a t (Grace c) b meets = meets.leaves.worked.log
 meets_on a t (Passive c) b meets = meets.leaves.worked.log
 meets_on a t (Local n) b meets = meets.leaves.log
-meets_on a t (Freed u) b meets = prefix_on _ _ _ meets.1.leaves.log (ended_on meets.1.between t b meets.1.ended)
+meets_on a t (Freed u) b meets = prefix_both _ _ _ meets.1.leaves.log (ended_on meets.1.between t b meets.1.ended)
 
 advanced_on : (a : OnKeeper) (n : ℕ) (answer : Result Stage Refusal) (b : OnKeeper) → HasAdvanced a n answer b → IsPrefix a.log b.log
 advanced_on a n (Ok stage) b has = meets_on a has.0 stage b has.2
@@ -119,7 +121,7 @@ told_end : (a b : OnKeeper) (x y : OnCpu) → b ≡ keeper_after_tell (keeper_af
 told_end a b x y is told =
     let hear : List LogItem = hears_cpu (cpu_after_tell x) in
     let log : b.log ≡ a.log ++ (hear ++ did (Tell None) Done) = ap (λ (k : OnKeeper). k.log) is ∙ append_assoc a.log hear (did (Tell None) Done) in
-    prefix_on _ _ _ (hear ++ did (Tell None) Done, sym log) told
+    prefix_both _ _ _ (hear ++ did (Tell None) Done, sym log) told
 
 pub told_turn : (z : Settings) (a : OnKeeper) (x : OnCpu) (n : ℕ) (answer : Result Stage Refusal) (b : OnKeeper) (y : OnCpu) → HasAdvancedFor z a x n answer b y → IsTurn z n x answer y
 told_turn z a x n answer b y has = record {
@@ -127,7 +129,7 @@ told_turn z a x n answer b y has = record {
   log = has.end.log;
   known = has.known;
   seen = has.seen;
-  on = prefix_on _ _ _ (hears_cpu x, refl) (advanced_on (keeper_after_hear a x) n answer has.end has.made);
+  on = prefix_both _ _ _ (hears_cpu x, refl) (advanced_on (keeper_after_hear a x) n answer has.end has.made);
   heard = record { teller = as_teller x; cpu = refl; later = omega arith; heard = advanced_on (keeper_after_hear a x) n answer has.end has.made };
   told = told_end has.end b x y has.is has.told;
   answers = answers_by z a (keeper_after_hear a x) has.end n answer has.own has.own_end refl (hears_cpu x, refl) has.made;
@@ -274,8 +276,8 @@ turn_since : (z : Settings) (n : ℕ) (x m : OnCpu) (answer : Result Stage Refus
 turn_since z n x m answer y learns turn = record {
   begin = turn.begin;
   log = turn.log;
-  known = prefix_on _ _ _ learns.0.known_log turn.known;
-  seen = let less = prefix_short x.view.pass m.view.pass learns.0.pass in omega (arith, less, turn.seen);
+  known = prefix_both _ _ _ learns.0.known_log turn.known;
+  seen = let less = prefix_length x.view.pass m.view.pass learns.0.pass in omega (arith, less, turn.seen);
   on = turn.on;
   heard = record {
     teller = turn.heard.teller;

@@ -11,13 +11,13 @@ use Rattle.registry_values.specs.declared.refusal.Refusal.TheVariants.{LocalFull
 use Rattle.registry_values.specs.Common.{Answers}
 use Rattle.name_registry.specs.Types.{Change, CpuView, Entry, Inside, Key, Name, NotFound, ReferenceView, Refusal, SectionsSpent, Seen}
 use Rattle.protocol.specs.Common.{IsLawful, IsLookup, entry_with}
+use Rattle.cpu_words.proofs.shown.Seeing.{prefix_both}
 use Rattle.local_count.specs.{AnswersAcquireLocal, HasAcquired, why_not_acquired_local}
 use Rattle.passive_list.specs.Common.{FindsInside, HasEnteredOn, HasExitedOn, HasFoundKept, HasHeardOn, OnCpu, OnKeeper, cpu_after_tell, entry_seen}
 use Rattle.passive_list.specs.Cpus.{why_not_entered}
+use Rattle.passive_list.proofs.Walking.{prefix_length}
 use Rattle.name_registry.specs.Common.{CountsInSection, FindsAndCounts, GetsLocal, IsLookupNow, IsOfDriver, NamesDriver, TakesDriver, as_needed, driver_key, is_inside, keeper_after_hear, keeper_after_tell}
-use Rattle.name_registry.proofs.Gathered.{prefix_both}
-use Rattle.name_registry.proofs.Noted.{prefix_short}
-use Rattle.name_registry.proofs.Worked.{prefix_on}
+use Rattle.name_registry.proofs.Gathered.{both_prefixes}
 
 -- What a find in a section leaves
 
@@ -53,7 +53,7 @@ kept_grows key a b seen had = subst (λ (o : OnCpu). IsPrefix a.view.pass o.view
 pub find_grows : (key : Key) (a b : OnCpu) (seen : Option Seen) → FindsInside key a b seen → IsPrefix a.view.pass b.view.pass
 find_grows key a b seen (None, at, had) = kept_grows key a b seen had
 find_grows key a b seen (Some s, at, inl had) = had.1.pass
-find_grows key a b seen (Some s, at, inr had) = prefix_on a.view.pass had.0.view.pass b.view.pass had.1.pass (kept_grows key had.0 b seen had.2)
+find_grows key a b seen (Some s, at, inr had) = prefix_both a.view.pass had.0.view.pass b.view.pass had.1.pass (kept_grows key had.0 b seen had.2)
 
 -- a search that had seen the whole history at its begin, and at its end no more, tells what is live at the end
 lawful_now : (p h : List Change) (key : Key) (answer : Option Entry) → length h ≤ length p → IsLawful h (length p) (length h) key answer → IsLookup h (length h) key answer
@@ -62,7 +62,7 @@ lawful_now p h key answer all is = subst (λ (n : ℕ). IsLookup h n key answer)
 kept_now : (key : Key) (h : List Change) (a b : OnCpu) (seen : Option Seen) → IsPrefix h a.view.pass → b.view.pass ≡ h → HasFoundKept key a b seen → IsLookup h (length h) key (entry_seen key seen)
 kept_now key h a b seen before after had =
     let end : had.left.view.pass ≡ h = sym (ap (λ (o : OnCpu). o.view.pass) had.is) ∙ after in
-    lawful_now a.view.pass h key (entry_seen key seen) (prefix_short h a.view.pass before)
+    lawful_now a.view.pass h key (entry_seen key seen) (prefix_length h a.view.pass before)
     (subst (λ (p : List Change). IsLawful p (length a.view.pass) (length p) key (entry_seen key seen)) end had.finds.lawful)
 
 found_now : (key : Key) (h : List Change) (a b : OnCpu) (seen : Option Seen) → IsPrefix h a.view.pass → b.view.pass ≡ h → FindsInside key a b seen → IsLookup h (length h) key (entry_seen key seen)
@@ -70,7 +70,7 @@ found_now key h a b seen before after (None, at, had) = kept_now key h a b seen 
 found_now key h a b seen before after (Some s, at, inl had) =
     subst (λ (o : Option Seen). IsLookup h (length h) key (entry_seen key o)) (sym had.0)
     (subst (λ (p : List Change). IsLookup p (length p) key (Some (entry_with key s.slot s.number s.value))) after had.1.answered)
-found_now key h a b seen before after (Some s, at, inr had) = kept_now key h had.0 b seen (prefix_on h a.view.pass had.0.view.pass before had.1.pass) after had.2
+found_now key h a b seen before after (Some s, at, inr had) = kept_now key h had.0 b seen (prefix_both h a.view.pass had.0.view.pass before had.1.pass) after had.2
 
 -- The refusals of an enter and of an acquire aren't that nothing was found
 
@@ -123,7 +123,7 @@ counted_none a key first last middle r seen before finds empty left = record {
   pass = ap (λ (o : OnCpu). o.view.pass) left.1;
   none = λ _ now. subst (IsLookup a.view.history (length a.view.history) key) empty (found_now key a.view.history first middle seen before now finds);
   some = λ v is. absurd (differ v (sym is ∙ left.0));
-  grows = prefix_on a.view.history first.view.pass middle.view.pass before (find_grows key first middle seen finds);
+  grows = prefix_both a.view.history first.view.pass middle.view.pass before (find_grows key first middle seen finds);
 }
   where
     differ : (v : ReferenceView) → ◌≡◌ {A = Result ReferenceView Refusal} (Ok v) (Err NotFound) → ⊥
@@ -140,7 +140,7 @@ counted_some a key first last middle (Ok v) seen before finds answers =
       none = λ is. absurd (differ v is);
       some = λ w is now. subst (λ (u : ReferenceView). IsLookup a.view.history (length a.view.history) key (Some u.entry)) (one v w is)
           (subst (IsLookup a.view.history (length a.view.history) key) same (found_now key a.view.history first middle seen before now finds));
-      grows = prefix_on a.view.history first.view.pass middle.view.pass before (find_grows key first middle seen finds);
+      grows = prefix_both a.view.history first.view.pass middle.view.pass before (find_grows key first middle seen finds);
     }
   where
     differ : (v : ReferenceView) → ◌≡◌ {A = Result ReferenceView Refusal} (Ok v) (Err NotFound) → ⊥
@@ -153,7 +153,7 @@ counted_some a key first last middle (Err f) seen before finds answers = record 
   pass = ap (λ (o : OnCpu). o.view.pass) answers.refused;
   none = λ is. absurd (acquire_refusal middle.view middle.view.found (answers.answer ∙ ap Some (same f is)));
   some = λ v is. absurd (differ v is);
-  grows = prefix_on a.view.history first.view.pass middle.view.pass before (find_grows key first middle seen finds);
+  grows = prefix_both a.view.history first.view.pass middle.view.pass before (find_grows key first middle seen finds);
 }
   where
     differ : (v : ReferenceView) → ◌≡◌ {A = Result ReferenceView Refusal} (Err f) (Ok v) → ⊥
@@ -186,7 +186,7 @@ answered : (a : OnKeeper) (name : Name) (last got : OnCpu) (r : Result Reference
     → IsNow a name got r
 answered a name last got r had exits seen =
     let same : got.view.pass ≡ had.middle.view.pass = exit_keeps last got exits ∙ had.pass in
-    let whole : got.view.pass ≡ a.view.history = prefix_both _ _ seen (subst (IsPrefix a.view.history) (sym same) had.grows) in
+    let whole : got.view.pass ≡ a.view.history = both_prefixes _ _ seen (subst (IsPrefix a.view.history) (sym same) had.grows) in
     let now : had.middle.view.pass ≡ a.view.history = sym same ∙ whole in
     record { whole = whole; driver = by r (λ is. had.none is now) (λ v is. had.some v is now) }
   where
@@ -203,13 +203,13 @@ driver_now a name heard got r told had seen = by had.entered refl
     by (Ok t) is =
         let inside = had.inside is in
         let enters = subst (λ (o : Result (Unit {0}) Refusal). Answers (why_not_entered heard) (λ _. HasEnteredOn heard had.first) o) is had.enters.answer in
-        answered a name inside.0 got r (counted a (driver_key name) had.first inside.0 r (prefix_on _ _ _ told (enter_grows heard had.first enters.1)) inside.1) inside.2 seen
+        answered a name inside.0 got r (counted a (driver_key name) had.first inside.0 r (prefix_both _ _ _ told (enter_grows heard had.first enters.1)) inside.1) inside.2 seen
     by (Err f) is =
         let left = had.refused f is in
         let why = subst (λ (o : Result (Unit {0}) Refusal). Answers (why_not_entered heard) (λ _. HasEnteredOn heard had.first) o) is had.enters.answer in
         let stays = subst (λ (o : Result (Unit {0}) Refusal). IfErr o (λ _. had.first ≡ heard)) is had.enters.refused in
         record {
-          whole = prefix_both _ _ seen (subst (λ (o : OnCpu). IsPrefix a.view.history o.view.pass) (sym (left.1 ∙ stays)) told);
+          whole = both_prefixes _ _ seen (subst (λ (o : OnCpu). IsPrefix a.view.history o.view.pass) (sym (left.1 ∙ stays)) told);
           driver = subst (IsOfDriver a name) (sym left.0) (not_found a name f (λ none. enter_refusal _ _ (why ∙ ap Some none)));
         }
 

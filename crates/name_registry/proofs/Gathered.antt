@@ -8,10 +8,10 @@ use lib.ListN.{get_elem?}
 use Rattle.atomic_table.proofs.Lists.{at_set}
 use Rattle.name_registry.specs.Types.{Balance, Change, Settings, LogItem, Teller, KeeperView, Cpu, Keeper}
 use Rattle.cpu_words.specs.Common.{changes_in, heard_from, IsShownAfter, with_note, keeper_with_note}
+use Rattle.cpu_words.proofs.shown.Seeing.{prefix_both}
 use Rattle.passive_list.specs.Common.{OnCpu, OnKeeper, HasOwnLog, HasHeardOn, WasShown, HeardAndTold}
 use Rattle.name_registry.specs.Common.{HasLearned, IsNote, AreAllCpus, AreAlike, HasListened, HasToldAll, HaveHeardAndTold, HaveLearned, HavePass, IsAuditBy, IsAuditIn, IsShownOn, KnowAll, KnowTheSame, audited_below, keeper_after_tell, local_met, tallies_met, tally_by, tally_met}
 use Rattle.name_registry.proofs.Audits.{cpu_at, each_same}
-use Rattle.name_registry.proofs.Worked.{prefix_on}
 use Rattle.name_registry.proofs.Noted.{by_passing, learned}
 use Rattle.passive_list.proofs.Rows.{no_more}
 
@@ -21,8 +21,8 @@ at_within l i a e = (cpu_at l i a a e).0
 -- Prefixes
 
 -- what goes on from a list and begins it is that list
-pub prefix_both : {X : Type 0} (a b : List X) → IsPrefix a b → IsPrefix b a → a ≡ b
-prefix_both {X} a b first second = by first.0 first.1
+pub both_prefixes : {X : Type 0} (a b : List X) → IsPrefix a b → IsPrefix b a → a ≡ b
+both_prefixes {X} a b first second = by first.0 first.1
   where
     by : (more : List X) → a ++ more ≡ b → a ≡ b
     by [] is = sym (append-nil a) ∙ is
@@ -58,7 +58,7 @@ gathered_more xs ys n log note told h x y so_far at heard knows shown is own =
     let mine : get_elem? xs n ≡ some x = sym (so_far.rest n (omega arith)) ∙ at in
     record {
       size = length-set ys n y ∙ so_far.size;
-      told = prefix_on _ _ _ so_far.told next;
+      told = prefix_both _ _ _ so_far.told next;
       learned = λ c u v lt was now. ⊎_elim
           (λ (p : (c ≡ n) × (y ≡ v)).
           let same : x ≡ u = some-injective x u (sym mine ∙ (ap (get_elem? xs) (sym p.0) ∙ was)) in
@@ -68,15 +68,15 @@ gathered_more xs ys n log note told h x y so_far at heard knows shown is own =
       shown = λ c u lt was. ⊎_elim
           (λ (same : c ≡ n).
           let one : x ≡ u = some-injective x u (sym mine ∙ (ap (get_elem? xs) (sym same) ∙ was)) in
-          (told, prefix_on _ _ _ so_far.told next, ([], append-nil told), subst (IsShownOn told) one (h, subst (λ (d : List LogItem). IsShownAfter d (Cpu (with_note x.view h))) (sym is) shown)))
+          (told, prefix_both _ _ _ so_far.told next, ([], append-nil told), subst (IsShownOn told) one (h, subst (λ (d : List LogItem). IsShownAfter d (Cpu (with_note x.view h))) (sym is) shown)))
           (λ (off : c ≡ n → ⊥).
           let p = so_far.shown c u (omega (arith, lt, off)) was in
-          (p.0, p.1, prefix_on _ _ _ p.2 next, p.3))
+          (p.0, p.1, prefix_both _ _ _ p.2 next, p.3))
           (cases_eq c n);
       knows = λ c v lt now. ⊎_elim
           (λ (p : (c ≡ n) × (y ≡ v)). subst (λ (z : OnCpu). IsPrefix log z.known_log × IsPrefix z.known_log told) p.1
-          (prefix_on _ _ _ so_far.told knows, subst (IsPrefix y.known_log) (sym is) ([], append-nil y.known_log)))
-          (λ (p : (c ≢ n) × (get_elem? ys c ≡ some v)). let had = so_far.knows c v (let off = p.0 in omega (arith, lt, off)) p.1 in (had.0, prefix_on _ _ _ had.1 next))
+          (prefix_both _ _ _ so_far.told knows, subst (IsPrefix y.known_log) (sym is) ([], append-nil y.known_log)))
+          (λ (p : (c ≢ n) × (get_elem? ys c ≡ some v)). let had = so_far.knows c v (let off = p.0 in omega (arith, lt, off)) p.1 in (had.0, prefix_both _ _ _ had.1 next))
           (at_set ys n c y v now);
       rest = λ c le. past_set ys n c y (λ same. omega (arith, le, same)) ∙ so_far.rest c (omega (arith, le));
     }
@@ -86,7 +86,7 @@ gathered_more xs ys n log note told h x y so_far at heard knows shown is own =
 gathered_known : (xs ys : List OnCpu) (n : ℕ) (log note : List LogItem) → Gathered xs ys n log note → length ys ≤ n → IsPrefix note log → KnowAll log ys
 gathered_known xs ys n log note all done back c y at =
     let p = all.knows c y (omega (arith, at_within ys c y at, done)) at in
-    prefix_both y.known_log log (prefix_on _ _ _ p.1 back) p.0
+    both_prefixes y.known_log log (prefix_both _ _ _ p.1 back) p.0
 
 pub gathered_alike : (z : Settings) (a k : OnKeeper) (xs ys : List OnCpu) (n : ℕ) (log note : List LogItem) → Gathered xs ys n k.log note → length ys ≤ n → k ≡ record a { log = log }
     → IsPrefix note k.log → HasOwnLog z k → AreAlike a xs ys
@@ -97,7 +97,7 @@ gathered_alike z a k xs ys n log note all done is back own =
       keeper = (own.counts.0, subst (λ (v : KeeperView). IsShownAfter k.log (Keeper (keeper_with_note v own.counts.0))) (ap (λ (x : OnKeeper). x.view) is) own.counts.1);
       cpus = λ c x at.
           let p = all.shown c x (omega (arith, at_within xs c x at, all.size, done)) at in
-          subst (λ (d : List LogItem). IsShownOn d x) (prefix_both p.0 k.log (prefix_on _ _ _ p.2 back) p.1) p.3;
+          subst (λ (d : List LogItem). IsShownOn d x) (both_prefixes p.0 k.log (prefix_both _ _ _ p.2 back) p.1) p.3;
     }
 
 -- What they have seen, and the note tells: the history, and no more
@@ -111,11 +111,11 @@ pub seen_more : (ys : List OnCpu) (n : ℕ) (h p q : List Change) (x y : OnCpu) 
 seen_more ys n h p q x y so_far heard is =
     let next : IsPrefix p q = subst (IsPrefix p) (sym is) heard.told in
     record {
-      told = prefix_on h p q so_far.told next;
+      told = prefix_both h p q so_far.told next;
       each = λ c v lt now. ⊎_elim
           (λ (o : (c ≡ n) × (y ≡ v)). subst (λ (z : OnCpu). IsPrefix h z.view.pass × IsPrefix z.view.pass q) o.1
-          (prefix_on h p y.view.pass so_far.told heard.told, subst (IsPrefix y.view.pass) (sym is) ([], append-nil y.view.pass)))
-          (λ (o : (c ≢ n) × (get_elem? ys c ≡ some v)). let had = so_far.each c v (let off = o.0 in omega (arith, lt, off)) o.1 in (had.0, prefix_on v.view.pass p q had.1 next))
+          (prefix_both h p y.view.pass so_far.told heard.told, subst (IsPrefix y.view.pass) (sym is) ([], append-nil y.view.pass)))
+          (λ (o : (c ≢ n) × (get_elem? ys c ≡ some v)). let had = so_far.each c v (let off = o.0 in omega (arith, lt, off)) o.1 in (had.0, prefix_both v.view.pass p q had.1 next))
           (at_set ys n c y v now);
     }
 
@@ -123,7 +123,7 @@ seen_more ys n h p q x y so_far heard is =
 seen_all : (ys : List OnCpu) (n : ℕ) (h p : List Change) → HaveSeen ys n h p → length ys ≤ n → IsPrefix p h → HavePass h ys
 seen_all ys n h p all done back c y at =
     let had = all.each c y (omega (arith, at_within ys c y at, done)) at in
-    prefix_both y.view.pass h (prefix_on y.view.pass p h had.1 back) had.0
+    both_prefixes y.view.pass h (prefix_both y.view.pass p h had.1 back) had.0
 
 -- the keeper k, which is a as it has told, has heard the last one, and is b
 pub told_all : (z : Settings) (a k b : OnKeeper) (xs ys : List OnCpu) (n : ℕ) (note : List LogItem) (p : List Change) (h : Option Teller) → Gathered xs ys n k.log note → HaveSeen ys n a.view.history p

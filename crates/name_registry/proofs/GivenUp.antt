@@ -3,11 +3,12 @@ use Rattle.std.proofs.Common.{◌≡◌, ◌∙◌, ℕ, ◌+◌, ◌<◌, ◌�
 use mathlib.Core.List.{IsPrefix}
 use Rattle.name_registry.specs.Types.{Done, Entry, JoinKeeper, LogItem, ReferenceView, Tell, TotalSub}
 use Rattle.cpu_words.specs.Common.{did, given_after, given_by, given_up, log_item}
+use Rattle.cpu_words.proofs.shown.Seeing.{prefix_both}
 use Rattle.local_count.specs.{HasComeBack}
-use Rattle.passive_list.specs.Common.{OnCpu, OnKeeper, HasGivenUp, HasHeardOn, cpu_after_tell, has_heard}
+use Rattle.local_count.specs.Draining.{HasGivenUp}
+use Rattle.passive_list.specs.Common.{OnCpu, OnKeeper, HasHeardOn, cpu_after_tell, has_heard}
 use Rattle.name_registry.specs.Common.{HasGivenUpFor, HasLearned, IsLetGoAndHeard, KnowsGivenUp, gives_up, hears_cpu, keeper_after_hear, keeper_after_tell, tells_and_hears}
 use Rattle.name_registry.proofs.Noted.{by_meeting, heard_told, met, learned}
-use Rattle.name_registry.proofs.Worked.{prefix_on}
 
 -- Counted in a log
 
@@ -42,7 +43,7 @@ knows_given a x v b y has =
     let tell : List LogItem = did (Tell None) Done in
     let more = has.told.0 in
     let log : b.log ≡ ((first ++ join) ++ less) ++ tell = ap (λ (k : OnKeeper). k.log) has.is ∙ ap (λ (l : List LogItem). l ++ tell) has.given.log in
-    let known : IsPrefix x.known_log first = prefix_on _ _ _ has.known (hears_cpu x, refl) in
+    let known : IsPrefix x.known_log first = prefix_both _ _ _ has.known (hears_cpu x, refl) in
     let are : y.known_log ≡ first ++ (gives_up v.entry ++ (tell ++ more)) =
     sym has.told.1 ∙ (ap (λ (l : List LogItem). l ++ more) log ∙ (append_assoc ((first ++ join) ++ less) tell more
     ∙ (ap (λ (l : List LogItem). l ++ (tell ++ more)) (append_assoc first join less) ∙ append_assoc first (join ++ less) (tell ++ more)))) in

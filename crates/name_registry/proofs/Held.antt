@@ -7,6 +7,7 @@ use lib.ListN.{get_elem?}
 use Rattle.name_registry.specs.Types.{Entry, Mark, Settings, Slot, Live, Retired}
 use Rattle.registry_values.specs.Common.{bias, is_retired, slot_at}
 use Rattle.protocol.specs.Common.{IsCounting, IsIn, itself, one_if_used, State, count_at, mark_at, total_at, number_in, BalancesAtRest, held_of, occupant_of}
+use Rattle.protocol.proofs.counts.Sums.{words-at-zero}
 use Rattle.cpu_words.proofs.by_keeper.KeeperSteps.{seen_by_keeper}
 use Rattle.passive_list.specs.Common.{OnCpu, OnKeeper}
 use Rattle.name_registry.specs.Common.{AreAllCpus, AreShown, IsKeeperOf, acquired_of, is_collected, local_of, locals_of, net_of, released_of, tally_of}
@@ -28,17 +29,9 @@ says_net k t n (suc w) x kept used net =
     let one : one_if_used (suc w) ≡ 1 = refl in
     omega (arith, ints, local, one, net)
 
--- past the CPUs the words are 0
-zeros : (ws : List ℕ) → ((c : ℕ) → get_or ws c 0 ≡ 0) → (sum_by itself ws ≡ 0) × (sum_by one_if_used ws ≡ 0)
-zeros [] none = (refl, refl)
-zeros (w ∷ ws) none =
-    let rest = zeros ws (λ c. none (suc c)) in
-    let unused : one_if_used w ≡ 0 = ap one_if_used (none 0) in
-    (omega (arith, sum_by-cons itself w ws, none 0, rest.0), omega (arith, sum_by-cons one_if_used w ws, unused, rest.1))
-
 sums : (k : OnKeeper) (t n : ℕ) (ws : List ℕ) (xs : List OnCpu) (a : ℤ) → ((c : ℕ) (x : OnCpu) → get_elem? xs c ≡ some x → Says k t n (get_or ws c 0) x) → ((c : ℕ) → length xs ≤ c → get_or ws c 0 ≡ 0)
     → fold ◌+ℤ◌ a (locals_of k xs t n) +ℤ pos (bias * sum_by one_if_used ws) ≡ a +ℤ pos (sum_by itself ws)
-sums k t n ws [] a each past = let none = zeros ws (λ c. past c (omega arith)) in omega (arith, ints, none.0, none.1)
+sums k t n ws [] a each past = let none = words-at-zero ws (λ c. past c (omega arith)) in omega (arith, ints, none.0, none.1)
 sums k t n [] (x ∷ xs) a each past =
     let rest = sums k t n [] xs (a +ℤ local_of k t n x) (λ c y at. each (suc c) y at) (λ c le. refl) in
     let one = each 0 x refl in

@@ -2,16 +2,12 @@
 use Rattle.std.proofs.Common.{◌≡◌, ◌⊎◌, ℕ, Option, Some, None, IfSome, IsTrue, Result, Ok, Err, inl, inr, refl, sym, ap, subst, ◌∙◌}
 use Rattle.name_registry.specs.Types.{Entry, Key, NotFound, Refusal, Seen}
 use Rattle.protocol.specs.Common.{entry_with}
-use Rattle.passive_list.specs.Common.{AnswersEnter, FindsInside, FindsWhatIsKept, FindsWhatStays, HasFoundAnew, HasFoundByMemory, HasFoundKept, HasRecalledByMemory, OnCpu, entry_seen}
+use Rattle.passive_list.specs.Common.{FindsInside, FindsWhatIsKept, FindsWhatStays, HasFoundAnew, HasFoundByMemory, HasFoundKept, HasRecalledByMemory, OnCpu, entry_seen}
 use Rattle.passive_list.proofs.ByMemory.{anew_after, by_load, inside_after, inside_kept, inside_stays, still_outside}
-use Rattle.passive_list.proofs.Sharing.{found_by_memory, found_inside, sharing}
+use Rattle.passive_list.proofs.Sharing.{found_by_memory, found_inside, sharing, entered}
 use Rattle.passive_ref.specs.{HasGotByMemory, IsAcquired, OnPsref, why_not_acquired}
 use Rattle.passive_ref.proofs.Gets.{got_by_memory, none_got}
 use Rattle.name_registry.specs.LookingUp.{FindsAndAcquires, Gets, GetsAnew, GetsFound, GetsInSection, HasMissed, HasNotGot, LooksByMemory, LooksInside, LooksUp, MayBegin, TriedSo, Tries, found_or, got_of, looked_up}
-
-entered : (m : ℕ) (a b : OnCpu) (r : Result (Unit {0}) Refusal) → AnswersEnter a b r → AnswersEnter (sharing m a) (sharing m b) r
-entered m a b (Ok tt) had = record { answer = (had.answer.0, assumption had.answer.1); refused = tt }
-entered m a b (Err f) had = record { answer = had.answer; refused = ap (sharing m) had.refused }
 
 inside : (m : ℕ) (key : Key) (a b : OnCpu) (r : Result Entry Refusal) → LooksInside key a b r → LooksInside key (sharing m a) (sharing m b) r
 inside m key a b r had = record { seen = had.seen; is = had.is; finds = found_inside m key a b had.seen had.finds; stays = had.stays; kept = had.kept }

@@ -1,7 +1,6 @@
 -- What a caller's CPU notes, has seen and keeps of a call through the lock, though nothing is known of the keeper.
-use Rattle.std.proofs.Common.{◌≡◌, ◌∙◌, All, List, ◌++◌, inl, inr, refl, ap, append_assoc, Option, Some, None, ℕ, suc, ◌≤◌, length, sym, arith, ◌⊎◌, ⊎_elim, zero, ◌<◌, Bool, true, false, if◌then◌else◌, Result, Ok, Err, IfOk, IfErr, IfSome, subst}
+use Rattle.std.proofs.Common.{◌≡◌, ◌∙◌, All, List, ◌++◌, inl, inr, refl, ap, append_assoc, Option, Some, None, ℕ, suc, length, sym, arith, ◌⊎◌, ⊎_elim, zero, ◌<◌, Bool, true, false, if◌then◌else◌, Result, Ok, Err, IfOk, IfErr, IfSome, subst}
 use Rattle.std.proofs.lemmas.List.Elements.{All-cons}
-use Rattle.std.proofs.lemmas.List.{length-append}
 use mathlib.Core.List.{IsPrefix}
 use Rattle.name_registry.specs.Types.{Change, Tell, Done, Teller, Attach, Detach, Replace, Entry, Room, Record, Refusal, NameTaken, NoSlot, HistoryFull, Inside, NeedsDriver, Settings, Key, ReferenceView, SectionsSpent, StillHeld, Waiting, NoMemory, NotFound, NotRetired}
 use Rattle.registry_values.specs.declared.refusal.Refusal.TheVariants.{BadSettings, NothingFound, PassiveFull, WrongCpu, NotHeld, LocalFull, MissingCpu, TooDeep}
@@ -15,7 +14,9 @@ use Rattle.cpu_words.specs.Common.{has_heard_from, log_item}
 use Rattle.cpu_words.proofs.shown.Seeing.{attached_prefix}
 use Rattle.passive_list.specs.Common.{OnCpu, HasHeardOn, cpu_after_tell, has_heard, has_told, HeardAndTold, GoesOnBy, OnKeeper}
 use Rattle.passive_list.proofs.Rows.{one_item}
-use Rattle.name_registry.specs.Common.{IsNote, tells_and_hears, tells_twice_and_hears, HasSeenAttach, HasSeenDetach, HasSeenReplace, AreReplaced, IsReplaceAnswer, IsReplaceRefusalOf, IsReplaceRefusedTo, attach_answer, attach_iface_answer, given_entry, first_fit, room_of, HasAttachedFor, HasAttachedIfaceFor, IsDetachAnswer, HasDetachedFor, MayAttach, IsAttachRefusal, IsPerformRefusal, is_inside, HasLearned}
+use Rattle.passive_list.proofs.Walking.{prefix_length}
+use Rattle.name_registry.specs.Common.{IsNote, tells_and_hears, tells_twice_and_hears, HasSeenAttach, HasSeenDetach, HasSeenReplace, AreReplaced, IsReplaceAnswer, IsReplaceRefusalOf, attach_answer, attach_iface_answer, given_entry, first_fit, room_of, HasAttachedFor, HasAttachedIfaceFor, IsDetachAnswer, HasDetachedFor, MayAttach, is_inside, HasLearned}
+use Rattle.name_registry.specs.Locking
 
 -- A CPU's own log in a hold of the interlock: notes alone.
 
@@ -58,9 +59,6 @@ by_passing x y is = record {
 
 -- What the caller's CPU has seen once it heard the whole history.
 
-pub prefix_short : (p h : List Change) → IsPrefix p h → length p ≤ length h
-prefix_short p h pre = let long = ap (λ (l : List Change). length l) (sym pre.1) ∙ length-append p pre.0 in omega (arith, long)
-
 -- a change of the history is in a pass that has it as a prefix
 change_on : (h p : List Change) (k : ℕ) (x : Change) → IsPrefix h p → change_at h k ≡ Some x → change_at p k ≡ Some x
 change_on h p k x pre at = ap (λ (l : List Change). change_at l k) (sym pre.1) ∙ (at_prefix h pre.0 k (at_within h k x at).1 ∙ at)
@@ -69,7 +67,7 @@ pub seen_attach : (h : List Change) (x y : OnCpu) (e : Entry) → IsPrefix x.vie
     → y.log ≡ x.log ++ tells_and_hears x → HasSeenAttach x y e
 seen_attach h x y e before number told log =
     record {
-      later = omega (arith, prefix_short x.view.pass h before, number);
+      later = omega (arith, prefix_length x.view.pass h before, number);
       attached = ap brought_by (change_on (after_change h (Attach e)) y.view.pass e.number (Attach e) told (ap (change_at (after_change h (Attach e))) number ∙ at_new h (Attach e)));
       log = log;
     }
@@ -80,7 +78,7 @@ seen_detach h x y e before attached told log =
     let after = after_change h (Detach e.number) in
     record {
       end = suc (length h);
-      later = omega (arith, prefix_short x.view.pass h before);
+      later = omega (arith, prefix_length x.view.pass h before);
       ends = ap ended_by (change_on after y.view.pass (suc (length h)) (Detach e.number) told (at_new h (Detach e.number)));
       attached = attached_prefix after y.view.pass e told (attached_old h (Detach e.number) e attached);
       log = log;
@@ -93,7 +91,7 @@ seen_replace h x y f e r before attached number alike told log =
     let after = after_change h c in
     let at : change_at y.view.pass e.number ≡ Some c = change_on after y.view.pass e.number c told (ap (change_at after) number ∙ at_new h c) in
     record {
-      later = omega (arith, prefix_short x.view.pass h before, number);
+      later = omega (arith, prefix_length x.view.pass h before, number);
       ends = ap ended_by at;
       attached = ap brought_by at;
       before = attached_prefix after y.view.pass f told (attached_old h c f attached);
@@ -132,17 +130,17 @@ by_name false fit room rec f is = by_slot fit room rec f is
 given_refused : (z : Settings) (k : OnKeeper) (rec : Record) (f : Refusal) → given_entry z k rec ≡ Err f → IsGivenRefusal f
 given_refused z k rec f is = by_name (is_taken (key_of_record rec) k.slots) (first_fit k) (room_of z k) rec f is
 
-refusal_is : (f r : Refusal) → f ≡ r → IsAttachRefusal false false r → IsAttachRefusal false false f
-refusal_is f r is refusal = subst (IsAttachRefusal false false) (sym is) refusal
+refusal_is : (f r : Refusal) → f ≡ r → Locking.IsAttachRefusal false false r → Locking.IsAttachRefusal false false f
+refusal_is f r is refusal = subst (Locking.IsAttachRefusal false false) (sym is) refusal
 
-given_refusal : (f : Refusal) → IsGivenRefusal f → IsAttachRefusal false false f
+given_refusal : (f : Refusal) → IsGivenRefusal f → Locking.IsAttachRefusal false false f
 given_refusal f is = ⊎_elim (λ e. refusal_is f _ e (refl, refl)) (λ or. ⊎_elim (λ e. refusal_is f _ e (refl, refl)) (λ e. refusal_is f _ e (refl, refl)) or) is
 
 entry_refusal : (inside unfit : Bool) (given : Result Entry Refusal) (f : Refusal) → ((r : Refusal) → given ≡ Err r → IsGivenRefusal r) → answers.attach_answer inside unfit given ≡ Err f
-    → IsAttachRefusal inside unfit f
-entry_refusal true unfit given f by is = let q : ◌≡◌ {A = Result Entry Refusal} (Err Inside) (Err f) = is in let e : Inside ≡ f = cc in subst (λ (r : Refusal). IsAttachRefusal true unfit r) e refl
+    → Locking.IsAttachRefusal inside unfit f
+entry_refusal true unfit given f by is = let q : ◌≡◌ {A = Result Entry Refusal} (Err Inside) (Err f) = is in let e : Inside ≡ f = cc in subst (λ (r : Refusal). Locking.IsAttachRefusal true unfit r) e refl
 entry_refusal false true given f by is =
-    let q : ◌≡◌ {A = Result Entry Refusal} (Err NeedsDriver) (Err f) = is in let e : NeedsDriver ≡ f = cc in subst (λ (r : Refusal). IsAttachRefusal false true r) e (refl, refl)
+    let q : ◌≡◌ {A = Result Entry Refusal} (Err NeedsDriver) (Err f) = is in let e : NeedsDriver ≡ f = cc in subst (λ (r : Refusal). Locking.IsAttachRefusal false true r) e (refl, refl)
 entry_refusal false false given f by is = given_refusal f (by f is)
 
 entry_may : (inside unfit : Bool) (given : Result Entry Refusal) (e : Entry) → answers.attach_answer inside unfit given ≡ Ok e → MayAttach inside unfit
@@ -175,7 +173,7 @@ iface_owned z k b x y rec v (Err back) is has = tt
 
 pub iface_refused : (z : Settings) (k b : OnKeeper) (x y : OnCpu) (rec : Record) (v : ReferenceView) (r : Result Entry (Refusal × ReferenceView))
     → IfErr r (λ back. (attach_iface_answer z k x rec v ≡ Err back.0) × (back.1 ≡ v) × (b ≡ k) × (y ≡ x))
-    → IfErr r (λ back. IsAttachRefusal (is_inside x) (is_iface v.entry.rec.kind) back.0 × (back.1 ≡ v) × (y ≡ x))
+    → IfErr r (λ back. Locking.IsAttachRefusal (is_inside x) (is_iface v.entry.rec.kind) back.0 × (back.1 ≡ v) × (y ≡ x))
 iface_refused z k b x y rec v (Ok e) is = tt
 iface_refused z k b x y rec v (Err back) is = (entry_refusal (is_inside x) (is_iface v.entry.rec.kind) (given_entry z k rec) back.0 (given_refused z k rec) is.0, is.1, is.3)
 
@@ -197,7 +195,7 @@ pub replace_owned : (z : Settings) (k : OnKeeper) (h : List Change) (x y : OnCpu
 replace_owned z k h x y unfit key value p is has own =
     ((ap (λ (q : Key). q.kind) is.1.1, ap (λ (q : Key). q.name) is.1.1, ap (λ (e : Entry). e.rec) is.4), learned h x y has (by_meeting x y own.log), own)
 
-pub replace_refused : (z : Settings) (k : OnKeeper) (x : OnCpu) (unfit : Bool) (key : Key) (f : Refusal) → IsReplaceRefusalOf z k x unfit key f → IsReplaceRefusedTo (is_inside x) unfit f
+pub replace_refused : (z : Settings) (k : OnKeeper) (x : OnCpu) (unfit : Bool) (key : Key) (f : Refusal) → IsReplaceRefusalOf z k x unfit key f → Locking.IsReplaceRefusedTo (is_inside x) unfit f
 replace_refused z k x unfit key Inside is = is
 replace_refused z k x unfit key NeedsDriver is = is
 replace_refused z k x unfit key NotFound is = is.0
@@ -229,7 +227,7 @@ pub least_small : (p : ℕ → Bool) (n : ℕ) → IfSome (least_below p n) (λ 
 least_small p zero = tt
 least_small p (suc n) = next_small (least_below p n) (p n) n (least_small p n)
 
-pub waiting_refused : (z : Settings) (inside : Bool) (o : Option ℕ) → inside ≡ false → IfSome o (λ c. c < z.cpus) → IfErr (wait_answer o) (λ f. IsPerformRefusal z inside f)
+pub waiting_refused : (z : Settings) (inside : Bool) (o : Option ℕ) → inside ≡ false → IfSome o (λ c. c < z.cpus) → IfErr (wait_answer o) (λ f. Locking.IsPerformRefusal z inside f)
 waiting_refused z inside None out small = tt
 waiting_refused z inside (Some c) out small = (out, small)
 

@@ -15,8 +15,9 @@ use Rattle.cpu_words.proofs.logs.Marks.{StandsIn, no_open, snapped_on, stands_mo
 use Rattle.cpu_words.proofs.logs.Slots.{kept_entry, kept_standing, not_attached, one_detached}
 use Rattle.passive_list.specs.Common.{OnCpu, OnKeeper, HasOwnLog, HasHeardOn, cpu_after_tell, has_heard, HasRows, OnPlainKeeper, states_of}
 use Rattle.passive_list.proofs.Rows.{few_slots, keeper_is, retired_in}
+use Rattle.passive_list.proofs.Walking.{prefix_length}
 use Rattle.name_registry.specs.Common.{keeper_after_hear, keeper_after_tell, GlancesBelow, GlancesOnce, HasPerformed, Hold, Looking, LooksOnce, PerformsOutside, SnapshotsBelow, is_seen, looking, word_of, MeetsGrace, PassedBelow, HasPassedAll, HasPassedFor, PassesBelow, PassesEntry, PassesIf}
-use Rattle.name_registry.proofs.Noted.{prefix_short, heard_told, met, least_small, heard_told_again, met_again}
+use Rattle.name_registry.proofs.Noted.{heard_told, met, least_small, heard_told_again, met_again}
 
 -- Looks for no entry, CPU by CPU: what a loop over the CPUs has done is so of rows that agree on them, and one CPU more follows.
 
@@ -92,7 +93,7 @@ pub made_hold : (looks : Looking → Looking → Type 0) (z : Settings) (a h l b
 made_hold looks z a h l b x same y heard pass known own is made slots tells hears told log =
     record {
       known = known;
-      seen = omega (arith, prefix_short x.view.pass h.view.history pass, ap (λ (k : OnKeeper). length k.view.history) heard, own.changes);
+      seen = omega (arith, prefix_length x.view.pass h.view.history pass, ap (λ (k : OnKeeper). length k.view.history) heard, own.changes);
       end = looking l;
       made = subst (λ (k : OnKeeper). looks (looking k) (looking l)) heard made;
       view = ap (λ (k : OnKeeper). k.view) tells;

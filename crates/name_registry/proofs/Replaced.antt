@@ -6,8 +6,9 @@ use Rattle.registry_values.specs.Common.{has_room, is_iface, key_of, slot_at}
 use Rattle.protocol.specs.Common.{keeps_rightly, after_change, IsAttached}
 use Rattle.protocol.specs.History.{rank_at}
 use Rattle.cpu_words.specs.Common.{did}
-use Rattle.passive_list.specs.Common.{OnCpu, OnKeeper, HasHeardOn, cpu_after_tell, has_heard, HasReplacedIn, HasReplacedKeeping, LogsReplace}
+use Rattle.passive_list.specs.Common.{OnCpu, OnKeeper, HasHeardOn, cpu_after_tell, has_heard, HasReplacedIn, LogsReplace}
 use Rattle.passive_list.proofs.Attached.{keeping_more}
+use Rattle.local_count.specs.Draining.{HasReplacedKeeping}
 use Rattle.name_registry.specs.Common.{first_fit, room_of, fit_slot, slot_answer, keeper_after_hear, keeper_after_tell, HasReplacedFor, HasReplacedIfaceFor, HasSeenReplace, IsLivePlace}
 use Rattle.name_registry.proofs.Attached.{HasSlot, fit_has, log_told, driver_keeps}
 use Rattle.name_registry.proofs.Noted.{heard_told, met, seen_replace}

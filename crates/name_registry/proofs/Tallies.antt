@@ -21,7 +21,8 @@ use Rattle.cpu_words.proofs.logs.Totalled.{given_by_log}
 use Rattle.cpu_words.proofs.laws.Safety.{runs_lawfully}
 use Rattle.passive_list.specs.Common.{OnCpu, IsOurKeeper, OnKeeper, OnPlainKeeper, on_keeper}
 use Rattle.passive_list.proofs.Rows.{slots_agree}
-use Rattle.name_registry.specs.Common.{AreAllCpus, AreAlike, AreShown, IsAuditOf, IsKeeperOf, IsTallied, acquired_of, is_collected, local_by, local_met, local_of, locals_of, net_met, net_of, released_of, tallies_met, tally, tally_by, tally_met, tally_of, IsAuditBy, audited, audited_at, audited_below, each_at, local_in, net_unless, tallies_below, tally_in, total_in, ExactAudit, counts_of, Balanced, FreeInterlock}
+use Rattle.name_registry.specs.Common.{AreAllCpus, AreAlike, AreShown, IsAuditOf, IsKeeperOf, IsTallied, acquired_of, is_collected, local_by, local_met, local_of, locals_of, net_met, net_of, released_of, tallies_met, tally, tally_by, tally_met, tally_of, IsAuditBy, audited, audited_at, audited_below, each_at, local_in, net_unless, tallies_below, tally_in, total_in, counts_of}
+use Rattle.name_registry.specs.Auditing
 use Rattle.name_registry.proofs.Audits.{all_met, each_same}
 use Rattle.name_registry.proofs.Held.{references_held}
 
@@ -304,7 +305,7 @@ audit_known a k xs ys list known all alike is = record { log = alike.log; known 
 
 -- The exact audit: one state shows the views of all seats, those of the keeper and the CPUs among them.
 
-pub exact_law : (a : Settings) (k : OnKeeper) (xs : List OnCpu) → ExactAudit a k xs
+pub exact_law : (a : Settings) (k : OnKeeper) (xs : List OnCpu) → Auditing.ExactAudit a k xs
 exact_law a k xs s ruled seated =
     let run : RunsLawfully a s = runs_lawfully a s ruled in
     let g : State = after (opening a) run.events in
@@ -326,7 +327,7 @@ exact_law a k xs s ruled seated =
 
 -- The free interlock: a keeper at rest is adding nothing, so the balance of each slot is the references held.
 
-at_rest_balanced : (g : State) → Good g → g.due ≡ Rest → Balanced g
+at_rest_balanced : (g : State) → Good g → g.due ≡ Rest → Auditing.Balanced g
 at_rest_balanced g good rest t e is =
     let row = counts_of g t in
     let held = held_at g.locals g.hands g.keeps g.due e.number t in
@@ -334,7 +335,7 @@ at_rest_balanced g good rest t e is =
     (good.holds.balance.balance t e is).even in
     omega (arith, even)
 
-pub free_law : (a : Settings) (x : OnKeeper) → x.view.due ≡ Rest → FreeInterlock a x
+pub free_law : (a : Settings) (x : OnKeeper) → x.view.due ≡ Rest → Auditing.FreeInterlock a x
 free_law a x rest s i ruled at =
     let run : RunsLawfully a s = runs_lawfully a s ruled in
     let g : State = after (opening a) run.events in

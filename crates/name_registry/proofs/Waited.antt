@@ -1,6 +1,6 @@
 -- What the caller's CPU knows once a perform is done: the keeper saw each CPU out of a section, after it had heard the caller, and what had been detached by then has passed.
 use Rattle.cpu_words.proofs.laws.Called.{ends_open_sections}
-use Rattle.std.proofs.Common.{◌≡◌, ◌⊎◌, inl, inr, ⊎_elim, ℕ, zero, suc, ◌<◌, ◌≤◌, Bool, true, false, not, ◌==◌, List, [], ◌∷◌, ◌++◌, length, get_or, Option, Some, None, Result, Ok, Err, IfOk, refl, sym, ap, ◌∙◌, subst, append_assoc, arith}
+use Rattle.std.proofs.Common.{◌≡◌, ◌⊎◌, inl, inr, ⊎_elim, ℕ, zero, suc, ◌<◌, ◌≤◌, Bool, true, false, not, ◌==◌, List, [], ◌∷◌, ◌++◌, length, Option, Some, None, Result, Ok, Err, IfOk, refl, sym, ap, ◌∙◌, subst, append_assoc, arith}
 use Rattle.std.proofs.lemmas.Bool.{or_cases, not-true, false≢true, eqb-true, eqb-false, cases_lt, not-false}
 use Rattle.std.proofs.lemmas.List.{append-nil}
 use mathlib.Core.List.{IsPrefix}
@@ -12,11 +12,11 @@ use Rattle.registry_values.proofs.Slots.{least_none}
 use Rattle.cpu_words.specs.Common.{changes_in, has_taken, has_found, has_heard_from, heard_from, HasHeardFrom, HasPassedOn, HasWaited, IsDetachedFrom, IsSeenOut, IsSnapped, KeepsSlot, did}
 use Rattle.cpu_words.proofs.logs.Marks.{StandsIn, passed_on, snapped_on, stands_more, stands_past}
 use Rattle.cpu_words.proofs.logs.Slots.{changes_last, kept_entry, kept_parts, standing_last}
+use Rattle.cpu_words.proofs.shown.Seeing.{prefix_both}
 use Rattle.passive_list.specs.Common.{OnCpu, as_teller, cpu_after_tell, OnKeeper, GoesOnBy}
 use Rattle.name_registry.specs.Common.{HasLearned, IsNote, hears_cpu, keeper_after_hear, Finishes, GlancesBelow, GlancesOnce, HasPerformed, HasSeenAllOut, Hold, Looking, SnapshotsBelow, SomeBegan, SomeGlanced, SomePassed, TurnsWaiting, is_seen, none_seen, word_of, HaveAllEnded}
 use Rattle.name_registry.proofs.Noted.{learned, by_meeting, by_meeting_again}
 use Rattle.name_registry.proofs.Passed.{IsReady, Passing, onward_below, passed_end, ready}
-use Rattle.name_registry.proofs.Worked.{prefix_on}
 use Rattle.passive_list.proofs.Rows.{goes_on, no_more}
 
 -- What is in a log
@@ -171,7 +171,7 @@ so_far_begun z x words numbers y is =
       record {
         are = q.are;
         heard = record { before = log; after = []; are = refl };
-        known = prefix_on x.known_log log (log ++ hears_cpu x) hold.known (hears_cpu x, refl);
+        known = prefix_both x.known_log log (log ++ hears_cpu x) hold.known (hears_cpu x, refl);
         pass = let n = hold.seen in omega (arith, n, heard_changes log (Some (as_teller x)));
         ready = heard_ready z.cpus numbers log (Some (as_teller x)) (ready z is.0 numbers is.2.own is.2.numbers);
         taken = λ c lt. stands_more _ p.more q.tail (p.taken c lt);
@@ -287,8 +287,8 @@ learns_none x = (record { pass = ([], append-nil x.view.pass); known_log = ([], 
 pub learns_more : (x m y : OnCpu) → Learns x m → Learns m y → Learns x y
 learns_more x m y first second = (
   record {
-    pass = prefix_on _ _ _ first.0.pass second.0.pass;
-    known_log = prefix_on _ _ _ first.0.known_log second.0.known_log;
+    pass = prefix_both _ _ _ first.0.pass second.0.pass;
+    known_log = prefix_both _ _ _ first.0.known_log second.0.known_log;
     is = second.0.is ∙ ap (λ (o : OnCpu). record o { view = record o.view { pass = y.view.pass; noted_pass = y.view.noted_pass }; made = y.made; known_log = y.known_log; log = y.log }) first.0.is;
     log = goes_on (IsNote x.view.id) x.log m.log y.log first.0.log (subst (λ (c : ℕ). GoesOnBy (IsNote c) m.log y.log) (ap (λ (o : OnCpu). o.view.id) first.0.is) second.0.log);
   },

@@ -13,9 +13,11 @@ use Rattle.protocol.specs.Common.{kept_at, keeps_rightly, DriversKept, State, op
 use Rattle.protocol.proofs.Cells.{mark_grows, mark_there, marks_grow_none, marks_grow_more, passed_from, clear_from, collected_from, total_other, snapshot_stands}
 use Rattle.cpu_words.specs.Common.{IsShown, did, Makes, has_looked, has_looked_passive, HasLookedPassive, HasLooked}
 use Rattle.cpu_words.proofs.by_keeper.KeeperSteps.{seen_by_keeper}
-use Rattle.passive_list.specs.Common.{OnKeeper, row_at, state_of, states_of, IsOurKeeper, OnPlainKeeper, on_keeper, IsDrainedOn, AreHeld, HasCollectedInto, GoesOnBy}
+use Rattle.cpu_words.proofs.shown.Seeing.{prefix_both}
+use Rattle.passive_list.specs.Common.{OnKeeper, row_at, state_of, states_of, IsOurKeeper, OnPlainKeeper, on_keeper, IsDrainedOn, GoesOnBy}
 use Rattle.passive_list.proofs.Marks.{marked}
 use Rattle.passive_list.proofs.Rows.{retired_in, goes_on, no_more, one_more, keeper_is}
+use Rattle.local_count.specs.Draining.{AreHeld, HasCollectedInto}
 use Rattle.name_registry.specs.Common.{first_fit, is_live_row, is_available_row, MayWork, HasEnded, HasWorkedFor, HasLookedFor, PassedBelow, ClearBelow, CollectedBelow, Settles, IsLook, LooksBelow, LooksUnless, is_retired_row, HasLookedLast, EndsIn, SeesSection, SeesPassive, Meets, MeetsGrace, MeetsLocal, MeetsPassive}
 
 -- Tests over the keeper's rows are tests over what a contract sees of the keeper.
@@ -90,10 +92,6 @@ still_works z a b t may worked =
 
 -- One turn after the other
 
--- a log that goes on, and goes on again
-pub prefix_on : {X : Type 0} (a b c : List X) → IsPrefix a b → IsPrefix b c → IsPrefix a c
-prefix_on {X} a b c p q = (p.0 ++ q.0, sym (append_assoc a p.0 q.0) ∙ (ap (λ (l : List X). l ++ q.0) p.1 ∙ q.1))
-
 pub worked_none : (a : OnKeeper) (t : ℕ) → HasWorkedFor a t a
 worked_none a t = record { only = refl; marks = marks_grow_none a.view.marks t; totals = λ u off. refl; looks = omega arith; slots = refl; log = ([], append-nil a.log) }
 
@@ -104,7 +102,7 @@ worked_more a b d t x y = record {
   totals = λ u off. y.totals u off ∙ x.totals u off;
   looks = let first = x.looks in let then = y.looks in omega (arith, first, then);
   slots = y.slots ∙ x.slots;
-  log = prefix_on _ _ _ x.log y.log;
+  log = prefix_both _ _ _ x.log y.log;
 }
 
 pub looked_none : (a : OnKeeper) (t : ℕ) → HasLookedFor a t a

@@ -6,7 +6,8 @@ use Rattle.registry_values.specs.Common.{key_of_record, is_iface, is_taken, live
 use Rattle.registry_values.specs.Answers as answers
 use Rattle.protocol.specs.Common.{IsLookup}
 use Rattle.cpu_words.specs.Common.{IsAttachedKeeping, did}
-use Rattle.passive_list.specs.Common.{OnCpu, OnKeeper, HasHeardOn, HasAttached, HasAttachedKeeping, LogsAttach, HasDetached, LogsDetach, HasReplacedIn, HasReplacedKeeping, LogsReplace}
+use Rattle.passive_list.specs.Common.{OnCpu, OnKeeper, HasHeardOn, HasAttached, LogsAttach, HasDetached, LogsDetach, HasReplacedIn, LogsReplace}
+use Rattle.local_count.specs.Draining.{HasAttachedKeeping, HasReplacedKeeping}
 use Rattle.name_registry.specs.Locking.{MayAttach, is_inside, keeper_after_hear, HasSeenAttach, HasSeenDetach, HasSeenReplace}
 
 -- What changes weigh in the ledger: a sum that a CPU carries out of the lock, and that is one change's only where it is of that change alone.

@@ -10,7 +10,8 @@ use Rattle.name_registry.specs.Types.{Entry, Iface, Event, Look, PassiveLook, Wo
 use Rattle.registry_values.specs.Common.{bias, destroy_result_of, is_retired_as, retired_slot, slot_at, IsObstacle}
 use Rattle.protocol.specs.Common.{MarksGrow, mark_at, total_at, kept_at}
 use Rattle.cpu_words.specs.Common.{LoggedRuled, has_looked, has_looked_passive, HasLooked, IsFreedFrom, did, Makes, changes_in, heard_from, given_up, occupant, sum_collected, word_collected, words_collected, HasPassedOn, IsDetachedFrom, IsSnapped}
-use Rattle.passive_list.specs.Common.{OnKeeper, HasVacated, IsDrainedOn, AreHeld, HasFreed, OnCpu, HasOwnLog, HasHeardOn, cpu_after_tell}
+use Rattle.passive_list.specs.Common.{OnKeeper, HasVacated, IsDrainedOn, OnCpu, HasOwnLog, HasHeardOn, cpu_after_tell}
+use Rattle.local_count.specs.Draining.{AreHeld, HasFreed}
 use Rattle.name_registry.specs.Locking.{IsStageOf, keeper_after_hear, keeper_after_tell, tells_twice_and_hears}
 
 -- A turn of the work on a retired entry: its result is what the keeper saw.

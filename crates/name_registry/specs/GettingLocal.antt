@@ -1,8 +1,9 @@
 -- What a get of a local reference answers and leaves: a find, and a count for what it found, in the open section or in one of its own.
 use Rattle.std.specs.Prelude.{◌≡◌, ◌≢◌, Option, None, Some, Result, Ok, Err}
 use Rattle.name_registry.specs.Types.{Entry, Key, Refusal, NotFound, ReferenceView, Seen}
-use Rattle.passive_list.specs.Common.{AnswersEnter, FindsInside, HasExitedOn, OnCpu, OnPlainRef}
+use Rattle.passive_list.specs.Common.{AnswersEnter, FindsInside, HasExitedOn, OnCpu}
 use Rattle.local_count.specs.{AnswersAcquireLocal}
+use Rattle.local_count.specs.References.{OnPlainRef}
 
 -- The reference of a result
 

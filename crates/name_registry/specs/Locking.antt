@@ -5,8 +5,9 @@ use Rattle.name_registry.specs.Types.{Entry, Tell, Done, LogItem, Teller, Refusa
 use Rattle.registry_values.specs.Common.{IsObstacle, is_available, is_live_as, key_of}
 use Rattle.protocol.specs.Common.{IsAttached, EndsAt}
 use Rattle.cpu_words.specs.Common.{has_heard_from, heard_from, keeper_with_note, did, log_item, given_up}
-use Rattle.passive_list.specs.Common.{OnCpu, OnPlainCpu, OnKeeper, OnPlainKeeper, GoesOnBy, as_teller, has_heard, has_told, HasGivenUp, HasHeardOn}
+use Rattle.passive_list.specs.Common.{OnCpu, OnPlainCpu, OnKeeper, OnPlainKeeper, GoesOnBy, as_teller, has_heard, has_told, HasHeardOn}
 use Rattle.local_count.specs.{HasReleased, HasComeBack}
+use Rattle.local_count.specs.Draining.{HasGivenUp}
 
 -- A call that changes the registry: the keeper hears what the caller's CPU has seen, and then the CPU hears the whole history.
 

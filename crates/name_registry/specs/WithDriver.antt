@@ -2,8 +2,9 @@
 use Rattle.std.specs.Prelude.{◌≡◌, ◌⊎◌, Some, None, Result, Ok, Err, true, false, ℕ}
 use Rattle.name_registry.specs.Types.{Driver, Iface, Entry, Key, Name, Record, Refusal, NotFound, NeedsDriver, Inside, ReferenceView, Settings}
 use Rattle.registry_values.specs.Common.{is_iface}
-use Rattle.passive_list.specs.Common.{HasGivenUp, HasHeardOn, OnCpu, OnKeeper, cpu_after_tell}
+use Rattle.passive_list.specs.Common.{HasHeardOn, OnCpu, OnKeeper, cpu_after_tell}
 use Rattle.local_count.specs.{HasComeBack, HasReleased}
+use Rattle.local_count.specs.Draining.{HasGivenUp}
 use Rattle.name_registry.specs.GettingLocal.{GetsLocal}
 use Rattle.name_registry.specs.Locking.{is_inside, keeper_after_hear, keeper_after_tell}
 use Rattle.name_registry.specs.Changes.{HasAttachedIfaceFor, HasReplacedIfaceFor, IsLookupNow, IsReplaceAnswer, IsReplaceRefusalOf, attach_iface_answer}

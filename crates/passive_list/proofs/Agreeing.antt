@@ -2,7 +2,7 @@
 use Rattle.std.proofs.Common.{◌≡◌, ◌≢◌, ◌⊎◌, inl, ℕ, ◌+◌, ◌*◌, ◌<◌, ◌≤◌, List, [], length, replicate, IsTrue, Option, Some, None, refl, sym, ap, ◌∙◌, subst, arith, ◌++◌, nat_lt}
 use Rattle.std.specs.Prelude.{slice_index_or}
 use Rattle.std.proofs.lemmas.List.{append-nil, get_or_default, length-replicate}
-use Rattle.std.proofs.lemmas.Option.{none-some}
+use Rattle.std.proofs.lemmas.Option.{none-some, same_Some}
 use Rattle.std.specs.List.{Contains}
 use Rattle.std.proofs.lemmas.Bool.{ltb-true}
 use mathlib.Core.List.{IsPrefix}
@@ -19,7 +19,7 @@ use Rattle.cpu_words.specs.Common.{IsRowOf, IsShownCpu, number_at, references_to
 use Rattle.cpu_words.proofs.seats.Seating.{found_is_in, new_cpu_is_shown, entered_whole, step_is_shown}
 use Rattle.cpu_words.proofs.shown.Seeing.{attached_prefix, seen_of}
 use Rattle.cpu_words.proofs.by_cpu.Passives.{known_of}
-use Rattle.passive_list.specs.Common.{Memory, Found, NumberedCount, HasLookedUp, no_place, no_found, no_memory, place_at, PassiveAgree, NetAgree, DepthAgrees, SectionAgrees, IsKept, HoldsFound, IsOurCpu, Remembers, OnCpu, HasEnteredOn, may_begin, HasFoundFromOutside, SearchesOnce}
+use Rattle.passive_list.specs.Common.{Memory, Found, NumberedCount, HasLookedUp, no_place, no_found, no_memory, place_at, PassiveAgree, NetAgree, DepthAgrees, SectionAgrees, IsFoundLast, IsKept, HoldsFound, IsOurCpu, Remembers, OnCpu, HasEnteredOn, may_begin, HasFoundFromOutside, SearchesOnce}
 use Rattle.passive_list.proofs.Memories.{none_remembered, stays}
 
 -- each place of a new CPU is of no entry
@@ -186,6 +186,19 @@ found_none x k shown kept none = by_cases x.found kept refl
     by_cases : (f : Option Entry) → IsKept k f → x.found ≡ f → x.found ≡ None
     by_cases None kept is = is
     by_cases (Some e) kept is = absurd (omega (arith, kept.0, (attached_within x.pass e (shown.shown.found e is)).0, none))
+
+-- so it is the one with a number, or isn't
+
+pub is_last : (x : CpuView) (k : Found) (n : ℕ) → IsFoundAs x k → k.number ≡ n → IsFoundLast x n
+is_last x k n kept same = (kept.entry, kept.found, sym kept.number ∙ same)
+
+pub not_last : (x : CpuView) (k : Found) (n : ℕ) → IsFoundAs x k → (k.number ≡ n → ⊥) → IsFoundLast x n → ⊥
+not_last x k n kept off last =
+    let one : kept.entry ≡ last.0 = same_Some kept.entry last.0 (sym kept.found ∙ last.1) in
+    off (kept.number ∙ (ap (λ (e : Entry). e.number) one ∙ last.2))
+
+pub none_last : (x : CpuView) (n : ℕ) → x.found ≡ None → IsFoundLast x n → ⊥
+none_last x n none last = none-some last.0 (sym none ∙ last.1)
 
 -- outside there is none
 pub none_outside : (x : CpuView) → IsShownCpu x → x.begin ≡ None → x.found ≡ None

@@ -1,12 +1,11 @@
--- An entry is published, and may keep its driver: the keeper may do so, and what it has agrees with what its seat knows then.
-use Rattle.std.proofs.Common.{◌≡◌, ℕ, ◌+◌, ◌<◌, ◌≤◌, false, List, length, set, Some, None, IsTrue, refl, sym, ap, ◌∙◌, subst, arith, get_or-set_same, get_or-set_other, length-set, inl, zero, suc, Bool, true, true≢false, [], ◌∷◌, ◌++◌, get_or, Option}
-use Rattle.std.proofs.Math.Seq.{map-set_same}
+-- An entry is published: the keeper may do so, and what it has agrees with what its seat knows then.
+use Rattle.std.proofs.Common.{◌≡◌, ℕ, ◌+◌, ◌<◌, ◌≤◌, false, List, length, set, Some, IsTrue, refl, sym, ap, ◌∙◌, subst, arith, get_or-set_same, length-set, inl, zero, suc, Bool, true, true≢false, [], ◌∷◌, ◌++◌, get_or, Option}
 use Rattle.std.proofs.lemmas.List.Folds.{Any-from_list_any, list_any_at}
 use Rattle.std.proofs.lemmas.List.Sums.{sum_by-cons}
 use Rattle.std.proofs.lemmas.List.{append_assoc, get_or_default}
 use Rattle.atomic_table.specs.Seated.{TableId}
 use mathlib.Core.List.{IsPrefix}
-use Rattle.passive_list.specs.Types.{Iface, Record, Settings, Slot, Vacant, KeeperView, LogItem, ReferenceView, Attach, Change, Done, Entry, Kind, Driver, Key, Live, Retired}
+use Rattle.passive_list.specs.Types.{Iface, Record, Settings, Slot, Vacant, KeeperView, LogItem, Attach, Change, Done, Entry, Kind, Driver, Key, Live, Retired}
 use Rattle.registry_values.specs.Common.{bias, key_of_record, is_taken, live_count, slot_at, is_key, key_of, is_live, is_live_as, kind_word}
 use Rattle.registry_values.proofs.Fit.{ranges}
 use Rattle.protocol.specs.Common.{count_at, total_at, kept_at, with_biases, no_words, entry_if, entry_of, keeps_rightly, kind_of, words_of, after_change, one_if}
@@ -15,59 +14,11 @@ use Rattle.protocol.specs.History.{rank_at}
 use Rattle.protocol.proofs.History.{length-after_change}
 use Rattle.protocol.proofs.keeps.ListKeeps.{live_count_set, rows_put}
 use Rattle.protocol.proofs.Occupied.{in_within}
-use Rattle.cpu_words.specs.Common.{keeper_after_keep, IsAttachedKeeping, LeadsBelow, MayPublish, HasPublished, To_end, To_slot, IsShown, keeper_after_live, log_item}
-use Rattle.passive_list.specs.Common.{AreRanksOf, AreSized, KeptSlot, OnPlainKeeper, on_keeper, no_row, row_at, state_of, states_of, IsAtRest, RowsAgree, IsOurKeeper, MayAttach, keeper_after_stores, keeper_after_publish}
+use Rattle.cpu_words.specs.Common.{IsAttachedKeeping, LeadsBelow, MayPublish, HasPublished, To_end, To_slot, IsShown, keeper_after_live, log_item}
+use Rattle.passive_list.specs.Common.{AreRanksOf, AreSized, KeptSlot, OnPlainKeeper, on_keeper, row_at, states_of, IsAtRest, RowsAgree, IsOurKeeper, MayAttach, keeper_after_stores, keeper_after_publish}
 use Rattle.passive_list.proofs.Ranks.{rank_attach, rank_out}
-use Rattle.passive_list.proofs.Rows.{keeper_on, ranks_of, row_stays, rows_set, settings_are, slots_agree, state_at, state_set, live_in}
+use Rattle.passive_list.proofs.Rows.{keeper_on, ranks_of, slots_agree, state_at, state_set, live_in}
 use Rattle.passive_list.proofs.Preparing.{biases_size, bias_stored}
-
--- A slot keeps a reference to its driver: the keeper's rows say so, and an interface may be published there.
-
-abbrev pub row_keeping : KeptSlot → ℕ → KeptSlot
-row_keeping r n = record { state = r.state; total = r.total; keeps = Some n; rank = r.rank }
-
-abbrev pub rows_keeping : List KeptSlot → ℕ → ℕ → List KeptSlot
-rows_keeping rows t n = set rows t (row_keeping (row_at rows t) n)
-
-pub keeping_rows : (a : Settings) (k : KeeperView) (rows : List KeptSlot) (t n : ℕ) (v : ReferenceView) → IsAtRest a k → RowsAgree a k rows → t < a.slots → v.entry.number ≡ n
-    → RowsAgree a (keeper_after_keep k t v) (rows_keeping rows t n)
-keeping_rows a k rows t n v at agree lt number =
-    let l = keeper_after_keep k t v in
-    let had = agree.each t lt in
-    rows_set a k l rows t (row_keeping (row_at rows t) n) lt agree
-    (assumption (sym (get_or-set_same k.keeps t (Some v.entry.number) None (omega (arith, lt, at.sized.keeps)) ∙ ap Some number), had))
-    (λ u off was. row_stays k l u (row_at rows u) refl refl (get_or-set_other k.keeps t u (Some v.entry.number) None off) (λ e is. refl) was)
-
--- the slots stay
-pub states_keeping : (rows : List KeptSlot) (t n : ℕ) → states_of (rows_keeping rows t n) ≡ states_of rows
-states_keeping rows t n = map-set_same state_of rows t (row_keeping (row_at rows t) n) no_row refl
-
--- what publishing asks of the keeper once the slot keeps the reference, from what is asked of a caller
-pub may_attach : {table : TableId} {log : List LogItem} (a : Settings) (k l : KeeperView) (rows : List KeptSlot) (c t n : ℕ) (rec : Record) (v : ReferenceView) (x : OnPlainKeeper)
-    → IsOurKeeper a k rows c → on_keeper table a k rows log ≡ x
-    → l ≡ keeper_after_keep k t v → v.entry.number ≡ n → (t < x.words.settings.slots) × (slot_at x.keeper.slots t ≡ Vacant) → rec.kind ≡ Iface → IsTrue (is_key rec.name)
-    → is_taken (key_of_record rec) x.keeper.slots ≡ false → length x.keeper.view.history + live_count x.keeper.slots + 2 ≤ x.words.settings.change_limit
-    → MayAttach a l (rows_keeping rows t n) (record { number = c + 1; slot = t; rec = rec })
-may_attach a k l rows c t n rec v x our is at number vacant kind name free room =
-    let rest = our.view in
-    let same = states_keeping rows t n in
-    let lt = subst (λ (y : OnPlainKeeper). t < y.words.settings.slots) (sym is) vacant.0 in
-    let kept : kept_at (keeper_after_keep k t v).keeps t ≡ Some v.entry.number = get_or-set_same k.keeps t (Some v.entry.number) None (omega (arith, lt, rest.sized.keeps)) in
-    let history : (keeper_after_keep k t v).history ≡ x.keeper.view.history = ap (λ (y : OnPlainKeeper). y.keeper.view.history) is in
-    let states : states_of (rows_keeping rows t n) ≡ x.keeper.slots = same ∙ ap (λ (y : OnPlainKeeper). y.keeper.slots) is in
-    subst (λ (y : KeeperView). MayAttach a y (rows_keeping rows t n) (record { number = c + 1; slot = t; rec = rec })) (sym at) record {
-      at = assumption (rest, length-set k.keeps t (Some v.entry.number) ∙ rest.sized.keeps);
-      agree = keeping_rows a k rows t n v rest our.rows lt number;
-      slot = lt;
-      vacant = ap (λ (xs : List Slot). slot_at xs t) states ∙ vacant.1;
-      keeps = rw (kept, kind) refl;
-      name = name;
-      free = ap (is_taken (key_of_record rec)) states ∙ free;
-      room = rw (history, states) (subst (λ (z : Settings). length x.keeper.view.history + live_count x.keeper.slots + 2 ≤ z.change_limit) (sym (settings_are is)) room);
-      number = omega (arith, our.changes);
-    }
-
--- An entry is published: the keeper may do so, and what it has agrees with what its seat knows then.
 
 -- Who is live
 

@@ -1,12 +1,13 @@
 -- The live entry with the greatest rank below another and that with the least above it are found by one walk over the slots.
-use Rattle.std.proofs.Common.{◌≡◌, inl, ⊎_elim, ℕ, zero, suc, ◌<◌, ◌≤◌, Bool, true, false, ◌&&◌, if◌then◌else◌, nat_lt, List, length, Option, Some, None, refl, sym, ap, ◌∙◌, subst, arith, Decides, true≢false}
+use Rattle.std.proofs.Common.{◌≡◌, inl, ⊎_elim, ℕ, zero, suc, ◌<◌, ◌≤◌, Bool, true, false, ◌&&◌, if◌then◌else◌, nat_lt, List, length, Option, Some, None, refl, sym, ap, ◌∙◌, subst, arith, Decides}
 use Rattle.std.proofs.lemmas.Bool.{cases_eq, cases_lt}
 use Rattle.std.proofs.lemmas.Bool.Decides.{Decides-and, Decides-ltb, not_from_Decides}
 use Rattle.std.proofs.lemmas.List.{length-map}
 use Rattle.std.proofs.Math.Numerals.{add-one}
-use Rattle.passive_list.specs.Types.{Entry, Slot, Vacant, Live, Retired}
+use Rattle.passive_list.specs.Types.{Entry, Live}
 use Rattle.registry_values.specs.Common.{is_live, slot_at}
 use Rattle.protocol.proofs.Occupied.{in_within}
+use Rattle.protocol.proofs.keeps.Linking.{live_entry}
 use Rattle.cpu_words.specs.Common.{LeadsBelow, IsBefore, IsLinkPlace, To_end, To_slot}
 use Rattle.passive_list.specs.Common.{KeptSlot, At, AreRanksOf, row_at, state_of, states_of, newer_of, older_of, link_to, place_of}
 use Rattle.passive_list.specs.Publishing.{is_newer, is_older}
@@ -48,13 +49,6 @@ further : (up : Bool) (best : Option At) (x y : ℕ) → IsBetter up x best → 
 further up None x y better lt = tt
 further false (Some at) x y better lt = omega (arith, better, lt)
 further true (Some at) x y better lt = omega (arith, better, lt)
-
--- the live entry of a slot
-
-live_entry : (x : Slot) → is_live x ≡ true → (e : Entry) × (x ≡ Live e)
-live_entry Vacant is = absurd (true≢false (sym is))
-live_entry (Live e) is = (e, refl)
-live_entry (Retired e) is = absurd (true≢false (sym is))
 
 -- one slot more
 

@@ -12,5 +12,4 @@ pub mod Retired
 pub mod Replaced
 pub mod GoingOver
 pub mod Visited
-pub mod GivenUp
 pub mod Sharing

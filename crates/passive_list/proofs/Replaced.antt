@@ -1,10 +1,9 @@
 -- An entry takes the place of a live one: the keeper may do so, and what it has agrees with what its seat knows then.
-use Rattle.std.proofs.Common.{◌≡◌, ℕ, zero, suc, ◌+◌, ◌*◌, ◌<◌, ◌≤◌, List, [], ◌++◌, length, take, drop, set, replicate, Option, Some, None, IsTrue, refl, sym, ap, ◌∙◌, subst, arith, get_or-set_same, length-set, inl, ◌≢◌}
+use Rattle.std.proofs.Common.{◌≡◌, ℕ, zero, suc, ◌+◌, ◌*◌, ◌<◌, ◌≤◌, List, [], ◌++◌, length, take, drop, set, replicate, Option, Some, IsTrue, refl, sym, ap, ◌∙◌, subst, arith, length-set, inl, ◌≢◌}
 use Rattle.std.proofs.lemmas.List.{append-nil, append_assoc, map-set}
 use Rattle.std.proofs.lemmas.Option.{same_Some}
 use mathlib.Core.List.{IsPrefix}
-use Rattle.atomic_table.specs.Seated.{TableId}
-use Rattle.passive_list.specs.Types.{Iface, ReferenceView, Replace, Entry, Change, Settings, Mark, Slot, Vacant, Live, Retired, MOST_CPUS, KeeperView, Hide, Republish, Show, Snapshots, Snapshot, Done, Word, LogItem, Keeper}
+use Rattle.passive_list.specs.Types.{Replace, Entry, Change, Settings, Mark, Slot, Vacant, Live, Retired, MOST_CPUS, KeeperView, Hide, Republish, Show, Snapshot, Done, Word, LogItem, Keeper}
 use Rattle.registry_values.specs.Common.{live_count, slot_at, no_mark, is_key}
 use Rattle.protocol.specs.Common.{keeps_rightly, kept_at, after_change, entry_of}
 use Rattle.protocol.specs.History.{rank_at}
@@ -12,11 +11,11 @@ use Rattle.protocol.specs.State.{row_at as words_at}
 use Rattle.protocol.proofs.Cells.{slot_here, slot_other}
 use Rattle.protocol.proofs.History.{at_new, length-after_change, rank_is, rank_old}
 use Rattle.protocol.proofs.keeps.ListKeeps.{live_count_put, rows_put}
-use Rattle.cpu_words.specs.Common.{LeadsBelow, IsBefore, IsShown, MayHide, MayRepublish, MayShow, HasRepublished, IsAttachedKeeping, keeper_after_keep, Makes, did, keeper_after_live, keeper_after_republish}
+use Rattle.cpu_words.specs.Common.{LeadsBelow, IsBefore, IsShown, MayHide, MayRepublish, MayShow, HasRepublished, IsAttachedKeeping, Makes, did, keeper_after_live, keeper_after_republish}
 use Rattle.cpu_words.proofs.by_keeper.KeeperSteps.{seen_by_keeper}
-use Rattle.passive_list.specs.Common.{AreFresh, AreSnapshots, KeptSlot, OnPlainKeeper, on_keeper, row_at, state_of, states_of, IsAtRest, MarksAgree, RowsAgree, IsOurKeeper, with_snapshots, keeper_after_stores, AreWritten, HasReplaced, LogsReplace, LogsSnapshots, MayReplace, keeper_after_hide, keeper_after_place, keeper_after_snapshots, rows_replaced, rows_taken}
+use Rattle.passive_list.specs.Common.{AreSnapshots, KeptSlot, row_at, state_of, states_of, IsAtRest, MarksAgree, RowsAgree, IsOurKeeper, with_snapshots, keeper_after_stores, AreWritten, HasReplaced, LogsReplace, LogsSnapshots, MayReplace, keeper_after_hide, keeper_after_place, keeper_after_snapshots, rows_replaced, rows_taken}
 use Rattle.passive_list.specs.Publishing.{logged_stores}
-use Rattle.passive_list.proofs.Attached.{HasWords, keeping_more, keeping_rows, rows_keeping, states_keeping, has_words, count_on, live_rows, stored_sized}
+use Rattle.passive_list.proofs.Attached.{HasWords, keeping_more, has_words, count_on, live_rows, stored_sized}
 use Rattle.passive_list.proofs.Marks.{written_back}
 use Rattle.passive_list.proofs.Ranks.{live_now}
 use Rattle.passive_list.proofs.Retired.{LeadsFrom, StandsBefore, before_row, leads_row, links_size, taken_marks, zero_stored}
@@ -101,16 +100,6 @@ placed_as a k s h r rows u e v p asked stores hide told =
     let new : told.0 ≡ e = same_Some told.0 e (sym told.2 ∙ (ap (λ (x : KeeperView). entry_of e.slot (words_at x.rows e.slot)) is ∙ (stored a k rows u e v asked).entry)) in
     let old : told.1 ≡ asked.f = let q : Live told.1 ≡ Live asked.f = sym told.3 ∙ (ap (λ (x : KeeperView). slot_at x.slots u) is ∙ (there a k rows u e asked).1) in cc in
     told.4 ∙ (λ i. keeper_after_republish (is i) e.slot u (new i) (old i) p)
-
--- then the snapshots are due, and the old entry has no marks
-pub due_then : (k r : KeeperView) (u : ℕ) (f e : Entry) (v : ℕ) (p : Option ℕ) → r ≡ keeper_after_place k u f e v p → r.due ≡ Snapshots u 0
-due_then k r u f e v p is = ap (λ (x : KeeperView). x.due) is
-
-pub fresh_then : (a : Settings) (k r : KeeperView) (u : ℕ) (f e : Entry) (v : ℕ) (p : Option ℕ) → IsAtRest a k → u < a.slots → r ≡ keeper_after_place k u f e v p → AreFresh r u
-fresh_then a k r u f e v p at lt is =
-    let none = replicate MOST_CPUS no_mark in
-    subst (λ (x : KeeperView). AreFresh x u) (sym is)
-    record { place = omega (arith, lt, at.sized.marks, length-set k.marks u none); marks = get_or-set_same k.marks u none [] (omega (arith, lt, at.sized.marks)) }
 
 pub may_show : (a : Settings) (k r n : KeeperView) (rows : List KeptSlot) (u : ℕ) (e : Entry) (v : ℕ) (p : Option ℕ) (marks : List Mark) (asked : MayReplace a k rows u e)
     → r ≡ keeper_after_place k u asked.f e v p → n ≡ with_snapshots r u marks → MayShow n e.slot e.number
@@ -278,29 +267,6 @@ ask_replace a k rows n u t value f at known agree changes lt vacant live keeps r
   room = room;
   number = omega (arith, changes);
 }
-
--- and once the slot t keeps the reference v
-pub ask_keeping : {table : TableId} {log : List LogItem} (a : Settings) (k l : KeeperView) (rows : List KeptSlot) (n u t m value : ℕ) (f : Entry) (v : ReferenceView) (x : OnPlainKeeper) → IsOurKeeper a k rows n
-    → on_keeper table a k rows log ≡ x → l ≡ keeper_after_keep k t v → v.entry.number ≡ m → (t < x.words.settings.slots) × (slot_at x.keeper.slots t ≡ Vacant) → (row_at rows u).state ≡ Live f
-    → f.rec.kind ≡ Iface → length x.keeper.view.history + live_count x.keeper.slots + 2 ≤ x.words.settings.change_limit
-    → MayReplace a l (rows_keeping rows t m) u (record { number = n + 1; slot = t; rec = record f.rec { value = value } })
-ask_keeping a k l rows n u t m value f v x our is at number vacant live kind room =
-    let rest = our.view in
-    let j = keeper_after_keep k t v in
-    let e : Entry = record { number = n + 1; slot = t; rec = record f.rec { value = value } } in
-    let lt = subst (λ (y : OnPlainKeeper). t < y.words.settings.slots) (sym is) vacant.0 in
-    let states : states_of (rows_keeping rows t m) ≡ states_of rows = states_keeping rows t m in
-    let kept : kept_at j.keeps t ≡ Some v.entry.number = get_or-set_same k.keeps t (Some v.entry.number) None (omega (arith, lt, rest.sized.keeps)) in
-    let known = live_shown k our.is_shown in
-    let was : slot_at (states_of rows) t ≡ Vacant = ap (λ (y : OnPlainKeeper). slot_at y.keeper.slots t) is ∙ vacant.1 in
-    let all : length k.history + live_count (states_of rows) + 2 ≤ a.change_limit =
-    subst (λ (y : OnPlainKeeper). length y.keeper.view.history + live_count y.keeper.slots + 2 ≤ y.words.settings.change_limit) (sym is) room in
-    let still : (row_at (rows_keeping rows t m) u).state ≡ Live f = sym (state_at (rows_keeping rows t m) u) ∙ (ap (λ (xs : List Slot). slot_at xs u) states ∙ (state_at rows u ∙ live)) in
-    subst (λ (y : KeeperView). MayReplace a y (rows_keeping rows t m) u e) (sym at)
-    (ask_replace a j (rows_keeping rows t m) n u t value f (assumption (rest, length-set k.keeps t (Some v.entry.number) ∙ rest.sized.keeps))
-    record { begun = known.begun; named = known.named }
-    (keeping_rows a k rows t m v rest our.rows lt number) our.changes lt (ap (λ (xs : List Slot). slot_at xs t) states ∙ was) still (rw (kept, kind) refl)
-    (subst (λ (xs : List Slot). length k.history + live_count xs + 2 ≤ a.change_limit) (sym states) all))
 
 -- What was written
 

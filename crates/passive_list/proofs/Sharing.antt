@@ -1,7 +1,7 @@
--- A CPU that has a share of a ledger, and the CPU without it: what is told of a lookup of the one is told of the other.
-use Rattle.std.proofs.Common.{◌≡◌, ℕ, true, Option, Some, None, inl, inr, ap, ◌∙◌}
-use Rattle.passive_list.specs.Types.{Entry, Key}
-use Rattle.passive_list.specs.Common.{HasFoundAnew, HasFoundByMemory, HasFoundFromOutside, HasFoundInSection, HasFoundKept, HasRecalledInVain, HasRecalledOn, OnCpu, OnPlainCpu, FindsAfterHead, FindsAfterWord, FindsBy, FindsInside, Seen}
+-- A CPU that has a share of a ledger, and the CPU without it: what is told of an enter or a lookup of the one is told of the other.
+use Rattle.std.proofs.Common.{◌≡◌, ℕ, true, Option, Some, None, inl, inr, ap, ◌∙◌, Result, Ok, Err}
+use Rattle.passive_list.specs.Types.{Entry, Key, Refusal}
+use Rattle.passive_list.specs.Common.{HasFoundAnew, HasFoundByMemory, HasFoundFromOutside, HasFoundInSection, HasFoundKept, HasRecalledInVain, HasRecalledOn, OnCpu, OnPlainCpu, FindsAfterHead, FindsAfterWord, FindsBy, FindsInside, Seen, AnswersEnter}
 
 abbrev pub sharing : ℕ → OnCpu → OnCpu
 sharing m x = record x { made = m }
@@ -9,6 +9,10 @@ sharing m x = record x { made = m }
 -- what a box has, lent
 pub shared : (m : ℕ) (p q : OnPlainCpu) (x : OnCpu) → p ≡ q → sharing m q.cpu ≡ x → sharing m p.cpu ≡ x
 shared m p q x same is = ap (λ (o : OnPlainCpu). sharing m o.cpu) same ∙ is
+
+pub entered : (m : ℕ) (a b : OnCpu) (r : Result (Unit {0}) Refusal) → AnswersEnter a b r → AnswersEnter (sharing m a) (sharing m b) r
+entered m a b (Ok tt) had = record { answer = (had.answer.0, assumption had.answer.1); refused = tt }
+entered m a b (Err f) had = record { answer = had.answer; refused = ap (sharing m) had.refused }
 
 outside : (m : ℕ) (key : Key) (a b : OnCpu) (answer : Option Entry) → HasFoundFromOutside key a b answer → HasFoundFromOutside key (sharing m a) (sharing m b) answer
 outside m key a b answer had =

@@ -4,9 +4,9 @@ pub use Rattle.passive_list.specs.declared.links.At.{At}
 pub use Rattle.passive_list.specs.declared.lookup.Seen.{Seen}
 pub use Rattle.passive_list.specs.declared.place.Found.{Found}
 pub use Rattle.passive_list.specs.declared.place.NumberedCount.{NumberedCount}
-pub use Rattle.passive_list.specs.Cpus.{AreNewRows, DepthAgrees, HoldsFound, IsKept, IsOurCpu, IsPlaceOf, NetAgree, OnCpu, OnPlainCpu, PassiveAgree, SectionAgrees, no_found, no_place, place_at}
+pub use Rattle.passive_list.specs.Cpus.{AreNewRows, DepthAgrees, HoldsFound, IsFoundLast, IsKept, IsOurCpu, IsPlaceOf, NetAgree, OnCpu, OnPlainCpu, PassiveAgree, SectionAgrees, no_found, no_place, place_at}
 pub use Rattle.passive_list.specs.Cpus.{HasHeardOn, HeardAndTold, WasShown, as_teller, cpu_after_tell, has_heard, has_told, AnswersEnter, HasEnteredOn, HasExitedOn, may_begin}
-pub use Rattle.passive_list.specs.Draining.{AreHeld, HasAttachedKeeping, HasReplacedKeeping, HasCollectedInto, HasFreed, HasGivenUp, keeper_after_collect, kept_slot, HasVacated, IsDrainedOn, is_drained_row}
+pub use Rattle.passive_list.specs.Draining.{HasVacated, IsDrainedOn, is_drained_row}
 pub use Rattle.passive_list.specs.Walks.{AreStoodOn, GoesOnAt, HasGoneByFrom, HasGoneByOne, HasGoneOver, HasPlaceOf, IsGoingOver, MayGoBy, view_at_link, HasWalked, IsWritten, WasLive}
 pub use Rattle.passive_list.specs.Keepers.{AreRanksOf, AreSized, HasRows, IsAtRest, IsOurKeeper, MarksAgree, OnKeeper, OnPlainKeeper, RowAgrees, RowsAgree, no_row, on_keeper, row_at, state_of, states_of}
 pub use Rattle.passive_list.specs.Keepers.{total_or_bias, GoesOnBy, HasOwnLog}
@@ -21,4 +21,3 @@ pub use Rattle.passive_list.specs.Remembering.{HasRecalledHeadOn, HasRecalledOn,
 pub use Rattle.passive_list.specs.Remembering.{FindsWhatIsKept, FindsWhatStays, HasFoundAnew, HasFoundByMemory, HasFoundInSection, HasFoundKept, HasRecalledAs, HasRecalledByMemory}
 pub use Rattle.passive_list.specs.Remembering.{HasRecalledInVain, HasSeen, IsAbsentAt, RecallsBy, RecallsSeen, RefindsSeen, RemembersAnswer}
 pub use Rattle.passive_list.specs.Replacing.{HasReplaced, HasReplacedIn, LogsReplace, MayReplace, keeper_after_hide, keeper_after_place, keeper_after_snapshots, rows_replaced, rows_taken}
-pub use Rattle.passive_list.specs.References.{IsOurReference, OnPlainRef}

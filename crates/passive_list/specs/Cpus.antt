@@ -78,6 +78,10 @@ abbrev pub IsKept : Found → Option Entry → Type 0
 IsKept f None = f.number ≡ 0
 IsKept f (Some e) = (f.number ≡ e.number) × (f.slot ≡ e.slot) × (f.kind ≡ e.rec.kind)
 
+-- the last found entry is n
+abbrev pub IsFoundLast : CpuView → ℕ → Type 0
+IsFoundLast x n = (e : Entry) × (x.found ≡ Some e) × (e.number ≡ n)
+
 -- some state shows the CPU, and there its open section may hold the last found entry, which has its slot
 pub record HoldsFound (x : CpuView) : Type 0 where
   pub is_shown : IsShownCpu x

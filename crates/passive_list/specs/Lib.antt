@@ -9,4 +9,3 @@ pub mod Publishing
 pub mod Replacing
 pub mod Walks
 pub mod Draining
-pub mod References

@@ -29,20 +29,20 @@ pub struct KeptSlot {
 }
 
 /// The keeper of the table that its seat is of. To a contract it is that table with its settings, and what its seat knows, the slots as it has
-/// them, and its log: what it did, each event with its reply, in order. It is at rest: no operation of it is half done. Its fields are this
-/// crate's alone, each of whose functions leaves it so that the rows agree with what the seat knows.
+/// them, and its log: what it did, each event with its reply, in order. It is at rest: no operation of it is half done. Each function that
+/// writes its fields leaves it so that the rows agree with what the seat knows.
 #[derive(Drop)]
 pub struct Keeper {
     /// The seat that it steps with.
-    pub(crate) seat: KeeperSeat,
+    pub seat: KeeperSeat,
     /// What the table was made for.
-    pub(crate) settings: Settings,
+    pub settings: Settings,
     /// How many changes there were: attaches and detaches.
-    pub(crate) changes: u64,
+    pub changes: u64,
     /// By slot.
-    pub(crate) rows: Vec<KeptSlot>,
+    pub rows: Vec<KeptSlot>,
     /// What was noted of the CPUs for a retired entry, a slot's marks side by side (`mark_place`).
-    pub(crate) marks: Vec<Mark>,
+    pub marks: Vec<Mark>,
 }
 
 /// The rows of a keeper that isn't seated yet, by the settings.
@@ -71,7 +71,7 @@ const VACANT_SLOT: KeptSlot = KeptSlot {
 };
 
 /// The place of a CPU's mark for a slot.
-pub(crate) fn mark_place(cpus: u8, slot: u8, cpu: u8) -> usize
+pub fn mark_place(cpus: u8, slot: u8, cpu: u8) -> usize
     ensures { result ≡ slot * cpus + cpu }
 {
     slot as usize * cpus as usize + cpu as usize
@@ -86,7 +86,7 @@ impl KeptSlot {
     }
 
     /// The slot's entry is live, with this rank.
-    pub(crate) fn make_live(&mut self, entry: Entry, rank: u64)
+    pub fn make_live(&mut self, entry: Entry, rank: u64)
         ensures { self.new ≡ record self.old { state = Live entry; rank = rank } }
     {
         self.state = SlotState::Live(entry);

@@ -48,7 +48,7 @@ pub fn publish(words: &Words, keeper: &mut Keeper, slot: u8, rec: Record) -> Ent
 /// made another step with the seat.
 /// Condition: that of `publish`, of the seat and the rows; the entry's number is how many changes there are then.
 #[tactic(auto, using(protocol::proofs::Cells::slot_here, crate::proofs::Attached::may_publish, crate::proofs::Attached::published_is, crate::proofs::Attached::leads_in))]
-pub(crate) fn publish_entry(words: &Words, seat: &mut KeeperSeat, rows: &[KeptSlot], entry: &Entry)
+pub fn publish_entry(words: &Words, seat: &mut KeeperSeat, rows: &[KeptSlot], entry: &Entry)
     requires table { seat.old.table ≡ words.now.table }
     requires may { MayAttach words.now.settings seat.old.view rows.now entry.now }
     ensures table { seat.new.table ≡ seat.old.table }

@@ -1,18 +1,16 @@
 //! An entry takes the place of a live one with the same kind and name: its words are stored, the old one is hidden, one store to the link
 //! that leads to the old one makes it lead to the new one, the snapshots are taken, and the new one is shown. So no lookup finds neither.
 
-ghost use Rattle.std.specs.Prelude.{◌≡◌, ℕ, ◌<◌, ◌≤◌, ◌+◌, ◌*◌, ◌++◌, suc, Some, None, IsTrue, List, length};
-ghost use Rattle.passive_list.specs.Types.{Done, Driver, Entry, Iface, Keep, Live, Mark, Vacant};
+ghost use Rattle.std.specs.Prelude.{◌≡◌, ℕ, ◌<◌, ◌≤◌, ◌+◌, ◌*◌, suc, Some, IsTrue, length};
+ghost use Rattle.passive_list.specs.Types.{Entry, Live, Vacant};
 ghost use Rattle.registry_values.specs.Common.{live_count, slot_at};
 ghost use Rattle.protocol.specs.Common.{keeps_rightly, kept_at};
-ghost use Rattle.cpu_words.specs.Common.{AreWordsOf, IsAttachedKeeping, did};
-ghost use Rattle.passive_list.specs.Draining.{HasReplacedKeeping};
+ghost use Rattle.cpu_words.specs.Common.{AreWordsOf, IsAttachedKeeping};
 ghost use Rattle.passive_list.specs.Publishing.{AreWritten};
 ghost use Rattle.passive_list.specs.Replacing.{MayReplace, HasReplaced, HasReplacedIn, LogsReplace, rows_replaced};
 
 use crate::keeper::{Keeper, KeptSlot, SlotState};
 use crate::links::{link_below, slot_above};
-use crate::plain_ref::PlainRef;
 use crate::publishing::prepare;
 use crate::retiring::snapshots;
 use cpu_words::{KeeperSeat, Words, steps};
@@ -59,69 +57,10 @@ pub fn replace(words: &Words, keeper: &mut Keeper, old: u8, slot: u8, value: u64
     (entry, made)
 }
 
-/// Puts an interface into the place of the live one in `old`, and `slot` keeps the reference to its driver from now on. It does what `replace`
-/// does, and spends the reference before the first word is stored. The old interface's slot keeps its driver until it is freed.
-///
-/// Conditions:
-///
-/// - the entry in `old` is live, and an interface;
-/// - the slot is one of the table's and vacant, and keeps nothing (`Keeper::keeps`);
-/// - the reference is of the keeper's table, to a driver, live or retired;
-/// - the history has room for this change and for the detach of each live entry, the new one too.
-pub fn replace_iface(
-    words: &Words,
-    keeper: &mut Keeper,
-    old: u8,
-    slot: u8,
-    value: u64,
-    reference: PlainRef,
-) -> (Entry, Entry)
-    requires words { AreWordsOf words.now keeper.old.words.table keeper.old.words.settings }
-    requires reference { reference.table ≡ keeper.old.words.table }
-    requires live { (f : Entry) × (slot_at keeper.old.keeper.slots old ≡ Live f) × (f.rec.kind ≡ Iface) }
-    requires vacant { (slot < keeper.old.words.settings.slots) × (slot_at keeper.old.keeper.slots slot ≡ Vacant) }
-    requires nothing { kept_at keeper.old.keeper.view.keeps slot ≡ None }
-    requires driver { reference.reference.entry.rec.kind ≡ Driver }
-    requires room { length keeper.old.keeper.view.history + live_count keeper.old.keeper.slots + 2 ≤ keeper.old.words.settings.change_limit }
-    ensures old { slot_at keeper.old.keeper.slots old ≡ Live result.0 }
-    ensures new { result.1 ≡ record { number = suc (length keeper.old.keeper.view.history); slot = slot; rec = record result.0.rec { value = value } } }
-    ensures change { HasReplacedKeeping keeper.old.keeper reference.reference old result.0 result.1 keeper.new.keeper }
-    ensures log { LogsReplace keeper.old.keeper.view old result.1 (keeper.old.keeper.log ++ did (Keep slot reference.reference.entry.number) Done) keeper.new.keeper.log }
-    ensures words { keeper.new.words ≡ keeper.old.words }
-{
-    let SlotState::Live(entry) = keeper.rows[old as usize].state else {
-        unreachable!()
-    };
-    let PlainRef {
-        seat,
-        number,
-        slot: _,
-        kind: _,
-    } = reference;
-    let made = Entry {
-        number: keeper.changes + 1,
-        slot,
-        rec: Record { value, ..entry.rec },
-    };
-    steps::keep(words, &mut keeper.seat, slot, seat);
-    keeper.rows[slot as usize].keeps = Some(number);
-    replace_entry(
-        words,
-        &mut keeper.seat,
-        &keeper.rows,
-        &mut keeper.marks,
-        old,
-        &made,
-    );
-    take_place(&mut keeper.rows, old, entry, made);
-    keeper.changes += 1;
-    (entry, made)
-}
-
 /// Puts the entry into the place of the live one in `old` by the keeper's seat alone, when the rows say already what is in each slot, and
 /// writes the old one's marks.
 /// Condition: that of `replace`, of the seat and the rows; the entry's number is how many changes there are then.
-fn replace_entry(
+pub fn replace_entry(
     words: &Words,
     seat: &mut KeeperSeat,
     rows: &[KeptSlot],
@@ -150,7 +89,7 @@ fn replace_entry(
 }
 
 /// The rows, as the new entry stands in the old one's place.
-fn take_place(rows: &mut [KeptSlot], old: u8, entry: Entry, made: Entry)
+pub fn take_place(rows: &mut [KeptSlot], old: u8, entry: Entry, made: Entry)
     requires old { old < length rows.old }
     requires new { made.slot < length rows.old }
     ensures { rows.new ≡ rows_replaced rows.old old entry made }

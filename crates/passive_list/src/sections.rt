@@ -1,7 +1,7 @@
 //! Read sections (pserialize(9)). Sections nest: only the outermost enter and exit step on the words.
 
 ghost use Rattle.std.specs.Prelude.{◌≡◌, ◌≢◌, ◌↔◌, IsTrue, None};
-ghost use Rattle.cpu_words.specs.Common.{AreWordsOf, HasEntered};
+ghost use Rattle.cpu_words.specs.Common.{AreWordsOf};
 ghost use Rattle.passive_list.specs.Cpus.{AnswersEnter, HasEnteredOn, HasExitedOn, may_begin};
 
 use crate::cpu::Cpu;

@@ -20,7 +20,7 @@ use Rattle.passive_list.specs.Common.{no_place, place_at, PassiveAgree, Memory, 
 use Rattle.passive_list.specs.declared.place.NumberedCount.{NumberedCount}
 use Rattle.passive_list.specs.declared.place.Found.{Found}
 use Rattle.passive_list.proofs.Agreeing.{slot_within, net_same, IsFoundAs}
-use Rattle.passive_ref.specs.{IsHeldAt, counts_for, OnPsref, IsAdded, IsNew, IsAcquired, IsCopied, IsFoundLast, why_full, why_not_acquired, HasLoaded, has_loaded}
+use Rattle.passive_ref.specs.{IsHeldAt, counts_for, OnPsref, IsAdded, IsNew, IsAcquired, IsCopied, why_full, why_not_acquired, HasLoaded, has_loaded}
 
 -- What a CPU's places say of its references: where the entry of a number is, and how many references are to it.
 
@@ -227,22 +227,6 @@ held_some x t n held = counts x.references held.entry n held.held held.at.number
 pub refused_cpu : (a b : OnPlainCpu) (r : Result OnPsref Refusal) → IfErr r (λ _. b ≡ a) → IfErr r (λ _. b.cpu ≡ a.cpu)
 refused_cpu a b (Ok p) same = tt
 refused_cpu a b (Err f) same = ap (λ (o : OnPlainCpu). o.cpu) same
-
--- Whether the last found entry is the one with that number, by what is kept of it.
-
-pub is_last : (x : CpuView) (k : Found) (n : ℕ) → IsFoundAs x k → k.number ≡ n → IsFoundLast x n
-is_last x k n kept same = (kept.entry, kept.found, sym kept.number ∙ same)
-
-pub not_last : (x : CpuView) (k : Found) (n : ℕ) → IsFoundAs x k → (k.number ≡ n → ⊥) → IsFoundLast x n → ⊥
-not_last x k n kept off last =
-    let one : kept.entry ≡ last.0 = some_one kept.entry last.0 (sym kept.found ∙ last.1) in
-    off (kept.number ∙ (ap (λ (e : Entry). e.number) one ∙ last.2))
-  where
-    some_one : (e f : Entry) → ◌≡◌ {A = Option Entry} (Some e) (Some f) → e ≡ f
-    some_one e f same = cc
-
-pub none_last : (x : CpuView) (n : ℕ) → x.found ≡ None → IsFoundLast x n → ⊥
-none_last x n none last = none-some last.0 (sym none ∙ last.1)
 
 -- The words of a record, loaded while the CPU's view stays as it was.
 

@@ -8,7 +8,7 @@ use Rattle.registry_values.specs.declared.refusal.Refusal.TheVariants.{NotFound}
 use Rattle.registry_values.specs.Common.{Answers}
 use Rattle.protocol.specs.Common.{word, words_of, IsAttached, IsLiveAt, IsLookup, entry_with}
 use Rattle.cpu_words.specs.Common.{did, references_to, without, IsAt, IsAloneAt}
-use Rattle.passive_list.specs.Common.{FindsInside, OnCpu, IsPlaceOf, Recalls}
+use Rattle.passive_list.specs.Common.{FindsInside, IsFoundLast, OnCpu, IsPlaceOf, Recalls}
 use Rattle.passive_list.specs.declared.place.NumberedCount.{NumberedCount}
 use Rattle.passive_list.specs.declared.lookup.Seen.{Seen}
 
@@ -57,13 +57,9 @@ has_loaded c e k = did (LoadRecord (Passive c e.number k)) (Word (word (words_of
 abbrev pub HasLoaded : Entry → OnCpu → OnCpu → Type 0
 HasLoaded e a b = b ≡ record a { log = a.log ++ has_loaded a.view.id e 1 ++ has_loaded a.view.id e 2 ++ has_loaded a.view.id e 3 ++ has_loaded a.view.id e 4 }
 
--- the CPU refers to the entry n, which is e, and has loaded its words
-abbrev pub IsReadAs : ℕ → OnCpu → OnCpu → Entry → Type 0
-IsReadAs n a b e = IsReferredTo a.view n e × HasLoaded e a b
-
--- r is its record
+-- the CPU refers to the entry n and has loaded its words, and r is its record
 abbrev pub IsRead : ℕ → OnCpu → OnCpu → Record → Type 0
-IsRead n a b r = (e : Entry) × IsReadAs n a b e × (r ≡ e.rec)
+IsRead n a b r = (e : Entry) × (IsReferredTo a.view n e × HasLoaded e a b) × (r ≡ e.rec)
 
 -- Where a call may be made
 
@@ -112,10 +108,6 @@ GivesBack why p P (Ok x) = (why ≡ None) × P x
 GivesBack why p P (Err r) = (why ≡ Some r.0) × (r.1 ≡ p)
 
 -- An acquire of the entry n, and of no other one: what it does with the last found entry, with a reference that the CPU has, and by a lookup.
-
--- the last found entry is n
-abbrev pub IsFoundLast : CpuView → ℕ → Type 0
-IsFoundLast x n = (e : Entry) × (x.found ≡ Some e) × (e.number ≡ n)
 
 -- it is acquired, unless the CPU has as many as it may
 pub record AcquiresLast (n : ℕ) (a b : OnCpu) (r : Result OnPsref Refusal) : Type 0 where

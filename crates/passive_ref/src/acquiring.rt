@@ -3,12 +3,13 @@
 ghost use Rattle.std.specs.Prelude.{◌≡◌, ◌≢◌, ◌<◌, IfErr, IfSome, IsTrue, None, Ok, false};
 ghost use Rattle.registry_values.specs.Common.{Answers};
 ghost use Rattle.cpu_words.specs.Common.{AreWordsOf, key_with, references_to};
-ghost use Rattle.passive_ref.specs.{AcquiresEntry, AcquiresLast, AcquiresSought, CopiesOwn, IsFoundLast, MayRefer, IsHeldAt, IsAcquired, IsCopied, IsAdded, HasOneLess, GivesBack, why_full, why_unusable, why_not_acquired, why_not_copied};
+ghost use Rattle.passive_list.specs.Common.{IsFoundLast};
+ghost use Rattle.passive_ref.specs.{AcquiresEntry, AcquiresLast, AcquiresSought, CopiesOwn, MayRefer, IsHeldAt, IsAcquired, IsCopied, IsAdded, HasOneLess, GivesBack, why_full, why_unusable, why_not_acquired, why_not_copied};
 
 use crate::holding::{count_of, counts_at, slot_of, usable_slot};
 use crate::psref::Psref;
 use cpu_words::{Domain, Words, steps};
-use passive_list::{Cpu, NumberedCount, PlainCpu, find_inside_on};
+use passive_list::{Cpu, NumberedCount, PlainCpu, find_inside_on, is_found_last, is_open_last};
 use registry_values::{Kind, Name, Refusal, why_full};
 
 /// Acquires a passive reference to this CPU's last found entry (psref(9)). It outlives the section, and the entry keeps its slot until it
@@ -112,29 +113,6 @@ fn acquire_sought(
         Some(slot) => copy_at(words, cpu, slot, number),
         None => Err(Refusal::NotFound),
     }
-}
-
-/// Whether the CPU's last found entry is the one with that number.
-#[inline(always)]
-fn is_found_last(cpu: &PlainCpu, number: u64) -> bool
-    ensures yes { IsTrue result → IsFoundLast cpu.now.cpu.view number }
-    ensures no { result ≡ false → IsFoundLast cpu.now.cpu.view number → ⊥ }
-{
-    let found = cpu.found;
-    if found.number == 0 {
-        return false;
-    }
-    found.number == number
-}
-
-/// Whether it is the one with that number, which is no entry's if it is 0. A CPU that has a last found entry is inside.
-#[inline(always)]
-fn is_open_last(cpu: &PlainCpu, number: u64) -> bool
-    requires begun { number ≢ 0 }
-    ensures yes { IsTrue result → IsFoundLast cpu.now.cpu.view number }
-    ensures inside { IsTrue result → cpu.now.cpu.view.begin ≢ None }
-{
-    number == cpu.found.number
 }
 
 /// Acquires one more reference to an entry of that slot that the CPU refers to.

@@ -11,6 +11,7 @@
 mod acquiring;
 mod getting;
 mod holding;
+mod looking;
 mod psref;
 mod reading;
 
@@ -20,6 +21,6 @@ pub use acquiring::{
 };
 pub use getting::{get_by_memory, get_on};
 pub use holding::{held, held_on};
-pub use passive_list::look_passive;
+pub use looking::look_passive;
 pub use psref::Psref;
-pub use reading::{read, read_entry_on, read_on};
+pub use reading::{read, read_on};

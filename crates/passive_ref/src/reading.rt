@@ -4,13 +4,13 @@ ghost use Rattle.std.specs.Prelude.{◌≡◌, ◌<◌, ◌++◌, IfErr};
 ghost use Rattle.registry_values.specs.Common.{Answers};
 ghost use Rattle.passive_list.specs.Types.{LoadRecord, Passive, Word};
 ghost use Rattle.cpu_words.specs.Common.{AreWordsOf, did, IsWordOf};
-ghost use Rattle.passive_ref.specs.{IsHeldAt, IsRead, IsReadAs, why_unusable};
+ghost use Rattle.passive_ref.specs.{IsHeldAt, IsRead, why_unusable};
 
 use crate::holding::usable_slot;
 use crate::psref::Psref;
 use cpu_words::{Domain, Words, steps};
 use passive_list::{Cpu, PlainCpu};
-use registry_values::{Entry, Record, Refusal, record_from};
+use registry_values::{Record, Refusal, record_from};
 
 /// The record of the entry that the reference is to, which stays while the reference is held (psref(9)). It needs no section, and changes
 /// nothing but the CPU's log, which has the four loads.
@@ -32,20 +32,6 @@ pub fn read_on(words: &Words, cpu: &mut PlainCpu, psref: &Psref) -> Result<Recor
 {
     let slot = usable_slot(cpu, psref)?;
     Ok(load_record(words, cpu, slot, psref.number))
-}
-
-/// The entry that the reference is to, on a CPU that names its own table: as `read_on`, with its number and its slot. Condition: the words
-/// are its table's.
-pub fn read_entry_on(words: &Words, cpu: &mut PlainCpu, psref: &Psref) -> Result<Entry, Refusal>
-    requires words { AreWordsOf words.now cpu.old.words.table cpu.old.words.settings }
-    ensures answer { Answers (why_unusable cpu.old.cpu.view psref.now) (IsReadAs psref.now.number cpu.old.cpu cpu.new.cpu) result }
-    ensures refused { IfErr result (λ _. cpu.new ≡ cpu.old) }
-    ensures words { cpu.new.words ≡ cpu.old.words }
-{
-    let number = psref.number;
-    let slot = usable_slot(cpu, psref)?;
-    let rec = load_record(words, cpu, slot, number);
-    Ok(Entry { number, slot, rec })
 }
 
 /// Loads words 1 to 4 of the record of an entry that this CPU refers to.

@@ -1,5 +1,5 @@
 -- What a CPU's calls made, by what it weighs: the changes of the history are no more than those of the calls.
-use Rattle.std.proofs.Common.{◌≡◌, ◌∙◌, ℕ, zero, suc, ◌+◌, ◌*◌, ◌<◌, ◌≤◌, List, [], ◌∷◌, ◌++◌, length, Option, Some, None, slice_index_or, Result, Ok, Err, slice_get, refl, sym, ap, subst, arith, append-nil, append_assoc}
+use Rattle.std.proofs.Common.{◌≡◌, ◌∙◌, ℕ, zero, suc, ◌+◌, ◌*◌, ◌<◌, ◌≤◌, List, [], ◌∷◌, ◌++◌, length, Option, Some, None, slice_index_or, Result, Ok, Err, slice_get, refl, sym, ap, subst, arith, append-nil}
 use mathlib.Core.List.{IsPrefix}
 use mathlib.Core.Option.{some, some-injective}
 use lib.ListN.{get_elem?}
@@ -22,6 +22,7 @@ use Rattle.passive_ref.specs.{IsAcquired, IsRead, HasOneLess, GivesBack, OnPsref
 use Rattle.name_registry.specs.Common.{AreNewCpus, new_on, made_by, weigh, weight, HasMade, HasLearned, HasSeenAttach, HasSeenDetach}
 use Rattle.name_registry.proofs.Audits.{cpu_at}
 use Rattle.atomic_table.proofs.Lists.{at_last}
+use Rattle.cpu_words.proofs.shown.Seeing.{prefix_both}
 use Rattle.registry_examples.specs.{moves, moves_in, made_in, IsOrdered, Accounts, MakesAtMost, MakesNone}
 
 -- Any change weighs at least as much as it moves.
@@ -119,9 +120,6 @@ detached_one x y e learned seen has =
 
 prefix_same : (a b : List Change) → b ≡ a → IsPrefix a b
 prefix_same a b same = ([], append-nil a ∙ sym same)
-
-prefix_both : (a b c : List Change) → IsPrefix a b → IsPrefix b c → IsPrefix a c
-prefix_both a b c first last = (first.0 ++ last.0, sym (append_assoc a first.0 last.0) ∙ ap (λ (h : List Change). h ++ last.0) first.1 ∙ last.1)
 
 both_none : (x y z : OnCpu) → MakesNone x y → MakesNone y z → MakesNone x z
 both_none x y z first last = record { pass = prefix_both x.view.pass y.view.pass z.view.pass first.pass last.pass; made = last.made ∙ first.made }

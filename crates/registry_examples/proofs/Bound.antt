@@ -4,13 +4,14 @@ use Rattle.std.proofs.lemmas.List.Sums.{sum_by-set, sum_by-append, sum_by-cons}
 use Rattle.std.proofs.lemmas.Bool.{and_parts}
 use Rattle.name_registry.specs.Types.{Settings, LogItem, Change, Attach, Detach, Replace, Entry, Slot, Vacant, Live, Retired, Event, Reply}
 use Rattle.registry_values.specs.Common.{are_fit, slot_at}
-use Rattle.protocol.specs.Common.{Outcome, State, Holds, Run, after, after_change, empty_run, opening, state_after, step, run_with_event, run_of_events, is_drained, destroyed_slot}
+use Rattle.protocol.specs.Common.{State, Holds, Run, after, after_change, empty_run, opening, state_after, step, run_with_event, run_of_events, is_drained, destroyed_slot}
 use Rattle.protocol.proofs.Made.{Made, Publishes, Unpublishes, Republishes, SubsKept, Vacates, each_event}
 use Rattle.protocol.proofs.keeps.Keeping.{step_keeps, turned_keeps, opening_holds}
 use Rattle.protocol.proofs.keeps.ListKeeps.{may_publish_tells}
 use Rattle.protocol.proofs.keeps.MarkKeeps.{is_drained_tells}
 use Rattle.protocol.proofs.keeps.Replacing.{IsSwap, may_republish_tells, old_still, old_within}
 use Rattle.protocol.proofs.Occupied.{in_within}
+use Rattle.protocol.proofs.runs.Steps.{turned_state}
 use Rattle.std.proofs.Common.{inl, inr}
 use Rattle.cpu_words.specs.Common.{EndsRun, by_number, did, log_with, log_from, part, events_of}
 use Rattle.cpu_words.specs.declared.view.KeeperView.{KeeperView}
@@ -78,17 +79,13 @@ event_balances s e on ds =
     (omega arith)
     (λ g r made. let one : Balances s e g r = made_balances s g e r on made in omega (arith, one, frees_append (did (by_number s e) r) ds))
 
-turned : (r : Run) (o : Option Outcome) → (run_with_event r o).state ≡ state_after r.state o
-turned r None = refl
-turned r (Some o) = refl
-
 run_balances : (r : Run) (events : List Event) → Holds r.state
     → 2 * frees_in (log_from r events) + slots_moves (run_of_events r events).state.slots + moves_in r.state.history ≡ moves_in (run_of_events r events).state.history + slots_moves r.state.slots
 run_balances r [] on = omega arith
 run_balances r (e ∷ events) on =
     let o = step r.state e in
     let next = run_with_event r o in
-    let is = turned r o in
+    let is = turned_state r o in
     let rest = run_balances next events (turned_keeps r o on (step_keeps r.state e on)) in
     let slots : slots_moves next.state.slots ≡ slots_moves (state_after r.state o).slots = ap (λ (s : State). slots_moves s.slots) is in
     let history : moves_in next.state.history ≡ moves_in (state_after r.state o).history = ap (λ (s : State). moves_in s.history) is in

@@ -1,12 +1,11 @@
 -- How often a slot was freed, by a log: as often as the log before, and once more for each destroy that frees.
 use Rattle.std.proofs.Common.{◌≡◌, ◌∙◌, subst, inl, inr, ℕ, zero, suc, ◌+◌, ◌*◌, ◌<◌, ◌≤◌, Bool, true, false, List, [], ◌∷◌, ◌++◌, Option, Some, None, Result, Ok, Err, refl, sym, ap, arith}
 use mathlib.Core.List.{IsPrefix}
-use Rattle.name_registry.specs.Types.{Settings, Stage, Grace, Passive, Local, Freed, Refusal, LogItem, ReferenceView, Vacate, KeptSub, Hear, Tell, Done}
+use Rattle.name_registry.specs.Types.{Settings, Stage, Grace, Passive, Local, Freed, Refusal, LogItem, Vacate, KeptSub, Hear, Tell, Done}
 use Rattle.registry_values.specs.Common.{destroy_result_of}
 use Rattle.protocol.specs.Common.{destroyed_slot}
 use Rattle.cpu_words.specs.Common.{did}
-use Rattle.passive_list.specs.Common.{OnCpu, OnKeeper, AnswersEnter, cpu_after_tell}
-use Rattle.local_count.specs.{AnswersAcquireLocal}
+use Rattle.passive_list.specs.Common.{OnCpu, OnKeeper, cpu_after_tell}
 use Rattle.name_registry.specs.Common.{HasEnded, HasAdvanced, HasAdvancedFor, SomeAdvancedFor, TurnsMeeting, DestroysOutside, HasLearned, hears_cpu, keeper_after_hear}
 use Rattle.registry_examples.specs.{Accounts, HasFreed, MakesAtMost, SomeFreed, with_freed, frees_in, answered_by}
 
@@ -73,16 +72,6 @@ pub destroyed_more : (z : Settings) (number turns slot : ℕ) (inside : Bool) (x
 destroyed_more z number turns slot true x y is = absurd (let refused = is.0 in cc)
 destroyed_more z number turns slot false x y is =
     omega (arith, meeting_more z number is.earlier x is.last.0 is.last.1, last_more z number slot is.last.0 y is.met is.told is.last.2)
-
--- What a CPU does in a section of its own leaves what it knows
-
-pub entered_known : (a b : OnCpu) (r : Result (Unit {0}) Refusal) → AnswersEnter a b r → b.known_log ≡ a.known_log
-entered_known a b (Ok u) is = is.answer.1.known_log
-entered_known a b (Err f) is = ap (λ (o : OnCpu). o.known_log) is.refused
-
-pub acquired_known : {X : Type 0} (a b : OnCpu) (r : Result X Refusal) (of : X → ReferenceView) → AnswersAcquireLocal a b r of → b.known_log ≡ a.known_log
-acquired_known a b (Ok x) of is = ap (λ (o : OnCpu). o.known_log) is.answer.1.cpu
-acquired_known a b (Err f) of is = ap (λ (o : OnCpu). o.known_log) is.refused
 
 -- What the packet loop's functions put together
 

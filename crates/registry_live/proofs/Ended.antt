@@ -15,11 +15,11 @@ use Rattle.protocol.specs.Common.{one_if}
 use Rattle.cpu_words.specs.Common.{did, references_to, given_up, number_at}
 use Rattle.cpu_words.proofs.by_keeper.Totals.{one_more_at}
 use Rattle.cpu_words.proofs.logs.Totalled.{given_more}
+use Rattle.cpu_words.proofs.shown.Seeing.{prefix_both}
 use Rattle.passive_list.specs.Common.{OnCpu}
 use Rattle.passive_ref.specs.{GivesBack, HasOneLess, OnPsref}
 use Rattle.name_registry.specs.Common.{AreAllCpus, IsLetGoAndHeard, KnowsGivenUp}
 use Rattle.name_registry.proofs.Audits.{cpu_at}
-use Rattle.name_registry.proofs.Worked.{prefix_on}
 use Rattle.registry_live.specs.{AllOnlyRelease, IsRelease, OnlyReleases, LetGo, LetsGo, HoldTheSame, StayInside, inside_of, EndedOnFirst, HaveEnded, is_local_to, locals_to}
 use Rattle.registry_live.proofs.Labelled.{goes_on_same, same_here, same_on, stays_inside}
 use Rattle.registry_live.proofs.LiveCpus.{let_go_stays, on_one}
@@ -216,7 +216,7 @@ then_ended x z y v ps (inr heard) rest =
     let known : IsPrefix x.known_log z.known_log = subst (λ (l : List LogItem). IsPrefix l z.known_log) (ap (λ (u : OnCpu). u.known_log) back) heard.learned.known_log in
     record {
       back = λ n. one_if (n == v.entry.number) + rest.back n;
-      known = prefix_on _ _ _ known rest.known;
+      known = prefix_both _ _ _ known rest.known;
       own = λ n.
           let same = ap (λ (l : List ℕ). number_at l n) released in
           let later = rest.own n in

@@ -1,8 +1,9 @@
 -- The CPU acquires by its last found entry.
 use Rattle.std.proofs.Common.{◌≡◌, ◌≢◌, ◌<◌, ℕ, Option, Some, None, Ok, inl, inr, refl, sym, ap, subst, ◌∙◌}
 use Rattle.c_calls.specs.Types.{Key, ReferenceView}
-use Rattle.passive_list.specs.Common.{OnPlainCpu, OnPlainRef}
+use Rattle.passive_list.specs.Common.{OnPlainCpu}
 use Rattle.local_count.specs.{AcquiresEntryLocal}
+use Rattle.local_count.specs.References.{OnPlainRef}
 use Rattle.c_handles.specs.Bodies.{OnLocalBody}
 use Rattle.c_handles.specs.OnHandle.{held_by}
 use Rattle.c_handles.specs.declared.values.plain.CEntry.{CEntry}

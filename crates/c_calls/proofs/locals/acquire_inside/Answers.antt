@@ -1,8 +1,9 @@
 -- The CPU is inside, and acquires.
 use Rattle.std.proofs.Common.{◌<◌, Ok, Err, refl, sym, ap, subst, ◌∙◌}
 use Rattle.c_calls.specs.Types.{ReferenceView}
-use Rattle.passive_list.specs.Common.{OnPlainCpu, OnPlainRef}
+use Rattle.passive_list.specs.Common.{OnPlainCpu}
 use Rattle.local_count.specs.{AcquiresEntryLocal}
+use Rattle.local_count.specs.References.{OnPlainRef}
 use Rattle.c_handles.specs.Bodies.{OnLocalBody}
 use Rattle.c_handles.specs.OnHandle.{held_by}
 use Rattle.c_calls.specs.LocalCalls.{AcquiresLocalInside}

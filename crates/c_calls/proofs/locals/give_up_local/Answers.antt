@@ -1,6 +1,6 @@
 -- The reference is given up.
 use Rattle.std.proofs.Common.{inl, refl, sym, subst, ◌∙◌}
-use Rattle.passive_list.specs.Common.{HasGivenUp}
+use Rattle.local_count.specs.Draining.{HasGivenUp}
 use Rattle.c_handles.specs.Bodies.{OnLocalBody}
 use Rattle.c_calls.specs.LocalCalls.{LocalGivesUp}
 use Rattle.c_calls.proofs.Counted.{through}

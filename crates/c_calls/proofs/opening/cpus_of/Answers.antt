@@ -4,9 +4,10 @@ use Rattle.c_calls.specs.Types.{Settings, CpuView}
 use Rattle.registry_values.specs.Common.{are_fit}
 use Rattle.registry_values.proofs.Fit.{ranges}
 use Rattle.cpu_words.specs.Common.{Named, Seated, new_cpu}
+use Rattle.name_registry.proofs.Closed.{at_none}
 use Rattle.c_calls.specs.Opening.{boxed, opened_cpu, opened_down}
 use Rattle.c_calls.proofs.Handles.{boxed_last}
-use Rattle.c_calls.proofs.Opened.{down_more, all_left, at_none, take_last}
+use Rattle.c_calls.proofs.Opened.{down_more, all_left, take_last}
 use Rattle.c_calls.proofs.opening.cpus_of.Goals as goal
 
 pub loop-seat-init : goal.loop-seat-init

@@ -3,9 +3,10 @@ use Rattle.std.proofs.Common.{◌<◌, ◌∙◌, ap, sym, subst, arith}
 use Rattle.cpu_words.proofs.seats.Seating.{step_is_shown}
 use Rattle.passive_list.specs.Types.{Settings}
 use Rattle.passive_list.specs.declared.place.NumberedCount.{NumberedCount}
-use Rattle.passive_list.specs.Common.{OnPlainCpu, OnPlainRef}
+use Rattle.passive_list.specs.Common.{OnPlainCpu}
 use Rattle.passive_list.proofs.Agreeing.{cpu_at, own_agrees, place_is}
 use Rattle.local_count.specs.{net_by, HasComeBack, HasReleased}
+use Rattle.local_count.specs.References.{OnPlainRef}
 use Rattle.local_count.proofs.References.{same_agrees, stored_agrees, released_agrees, come_back, has_come_back, has_released, may_count_down}
 use Rattle.local_count.proofs.counting.try_release_on.Goals as goal
 

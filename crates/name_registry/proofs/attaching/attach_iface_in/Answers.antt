@@ -1,10 +1,11 @@
 use Rattle.std.proofs.Common.{◌≡◌, ◌++◌, ◌∙◌, ℕ, ◌+◌, ◌<◌, ◌≤◌, length, Result, Ok, IfOk, refl, sym, ap, subst}
 use Rattle.name_registry.specs.Types.{Entry, Keep, Done, Refusal, KeeperView, Vacant}
 use Rattle.registry_values.specs.Common.{attach_answer, is_iface, live_count, slot_at}
-use Rattle.passive_list.specs.Common.{OnKeeper, HasAttachedKeeping, LogsAttach}
+use Rattle.passive_list.specs.Common.{OnKeeper, LogsAttach}
 use Rattle.cpu_words.specs.Common.{Named, did}
 use Rattle.name_registry.specs.Common.{HasAttachedIfaceFor}
 use Rattle.passive_list.proofs.Attached.{keeping_more}
+use Rattle.local_count.specs.Draining.{HasAttachedKeeping}
 use Rattle.name_registry.proofs.Attached.{MayTake, log_told, a_driver, inside_is, taken_tells, attach_met, keeping_told}
 use Rattle.name_registry.proofs.attaching.attach_iface_in.Goals.{After-hear_cpu}
 use Rattle.name_registry.proofs.attaching.attach_iface_in.Goals as goal

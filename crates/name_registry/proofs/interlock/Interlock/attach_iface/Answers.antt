@@ -1,13 +1,14 @@
 use Rattle.std.proofs.Common.{◌≡◌, Ok, Err, ap, sym, subst}
 use Rattle.name_registry.specs.Types.{Attach, ReferenceView}
 use Rattle.cpu_words.specs.Common.{IsAttachedKeeping}
-use Rattle.passive_list.specs.Common.{OnCpu, OnPlainCpu, OnPlainRef}
+use Rattle.passive_list.specs.Common.{OnCpu, OnPlainCpu}
 use Rattle.passive_list.proofs.Rows.{keeper_is}
 use Rattle.registry_values.specs.Common.{is_iface}
 use Rattle.name_registry.specs.Common.{HasAttachedIfaceFor, attach_iface_answer, IsAttachRefusal, is_inside}
 use Rattle.name_registry.proofs.Counted.{attach_counted, iface_numbered, few_changes, one_made, iface_attached}
 use Rattle.name_registry.proofs.Noted.{iface_may, iface_owned, iface_refused}
 use Rattle.passive_list.proofs.Sharing.{shared, sharing}
+use Rattle.local_count.specs.References.{OnPlainRef}
 use Rattle.name_registry.proofs.interlock.Interlock.attach_iface.Goals as goal
 
 pub returns-in-Ok : goal.returns-in-Ok

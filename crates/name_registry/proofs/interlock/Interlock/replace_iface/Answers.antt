@@ -1,12 +1,13 @@
-use Rattle.std.proofs.Common.{◌≡◌, Ok, Err, subst, sym, ap}
+use Rattle.std.proofs.Common.{◌≡◌, Ok, subst, sym, ap}
 use Rattle.name_registry.specs.Types.{Iface, Key, ReferenceView}
 use Rattle.cpu_words.specs.Common.{IsAttachedKeeping}
-use Rattle.passive_list.specs.Common.{OnCpu, OnPlainCpu, OnPlainRef}
+use Rattle.passive_list.specs.Common.{OnCpu, OnPlainCpu}
 use Rattle.registry_values.specs.Common.{is_iface}
 use Rattle.name_registry.specs.Common.{HasReplacedIfaceFor, IsReplaceAnswer, IsReplaceRefusedTo, is_inside}
 use Rattle.name_registry.proofs.Counted.{few_changes, iface_replaced, one_made, replace_counted, replace_numbered}
 use Rattle.name_registry.proofs.Noted.{replace_owned, replace_refused}
 use Rattle.passive_list.proofs.Sharing.{shared, sharing}
+use Rattle.local_count.specs.References.{OnPlainRef}
 use Rattle.name_registry.proofs.interlock.Interlock.replace_iface.Goals as goal
 
 pub returns-in-Ok : goal.returns-in-Ok
