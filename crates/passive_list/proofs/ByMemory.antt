@@ -4,16 +4,17 @@ use Rattle.std.proofs.lemmas.Bool.{eq-eqb, ne_eqb, cases_lt, eqb-true, false≢t
 use Rattle.std.proofs.lemmas.List.{append-nil}
 use Rattle.std.specs.Prelude.{is_some}
 use mathlib.Core.List.{IsPrefix}
-use Rattle.passive_list.specs.Types.{Entry, Event, Key, MOST_SLOTS, Recall, RecallHead, Refind, Settings, Word, CpuView, LogItem, Change}
-use Rattle.registry_values.specs.Common.{are_fit, key_of}
+use Rattle.passive_list.specs.Types.{Entry, Event, Key, Kind, MOST_SLOTS, Name, Recall, RecallHead, Refind, Settings, Word, CpuView, LogItem, Change}
+use Rattle.registry_values.specs.Common.{are_fit, key_of, kind_word}
 use Rattle.registry_values.proofs.Fit.{ranges}
 use Rattle.protocol.specs.Common.{IsAttached, entry_with, EndsAt, IsLegal, IsLiveAt, IsLookup, brought_by}
 use Rattle.protocol.specs.History.{change_at, rank_at}
 use Rattle.protocol.proofs.History.{IsGone, Stood, live_down, one_live, attached_within, rank_low, stands_on, stood}
-use Rattle.cpu_words.specs.Common.{did, event_by, HasRecalled, HasRecalledHead, HasRefound, HasWholePass, MayRefind, Named}
+use Rattle.cpu_words.specs.Common.{did, event_by, HasRecalled, HasRecalledHead, HasRefound, HasWholePass, MayRefind, Named, key_with}
 use Rattle.cpu_words.proofs.shown.Seeing.{attached_prefix}
-use Rattle.passive_list.specs.Common.{HasRecalledHeadOn, HasRecalledOn, HasRefoundAs, HasSeen, OnCpu, OnPlainCpu, Seen, Memory, Missed, HasFound, HasFoundFromOutside, HasFoundKept, FindsInside, Recalls, HasNumbered, HasRefoundOn, WasAbsent, entry_seen, may_begin, IsMiss, IsTrueMiss, Misses, miss_of, with_miss, FindsAndRemembers, FindsWhatIsKept, FindsWhatStays, HasFoundAnew, HasFoundInSection, HasFoundByMemory, HasRecalledAs, HasRecalledByMemory, RecallsBy, IsAbsentAt, FindsAfterHead, RecallsSeen, RefindsSeen, RemembersAnswer}
+use Rattle.passive_list.specs.Common.{ByWord, HasRecalledHeadOn, HasRecalledInVain, HasRecalledOn, HasRefoundAs, HasSeen, OnCpu, OnPlainCpu, Seen, Memory, Missed, HasFound, HasFoundFromOutside, HasFoundKept, FindsInside, Recalls, HasNumbered, HasRefoundOn, WasAbsent, entry_seen, may_begin, IsMiss, IsTrueMiss, Misses, miss_of, with_miss, FindsAndRemembers, FindsWhatIsKept, FindsWhatStays, HasFoundAnew, HasFoundInSection, HasFoundByMemory, HasRecalledAs, HasRecalledByMemory, RecallsBy, IsAbsentAt, FindsAfterHead, RecallsSeen, Refinds, RefindsSeen, RemembersAnswer}
 use Rattle.passive_list.specs.declared.memory.Miss.{Miss}
+use Rattle.passive_list.proofs.GoingOver.{one_kind}
 use Rattle.passive_list.proofs.Memories.{numbered_longer}
 use Rattle.passive_list.proofs.Walking.{ends_later, live_before, live_longer, prefix_length, prefix_trans}
 
@@ -299,6 +300,30 @@ anew_kept key h a b answer had outside longer =
 -- what the CPU remembers is live, by the load
 pub recalled_live : (key : Key) (o : OnPlainCpu) (b : OnCpu) (s : Seen) → HasSeen o key s → Recalls o.cpu.memory key (Some s) → HasRecalledOn s.slot s.number o.cpu b true → HasRecalledByMemory key o.cpu b (Some s)
 recalled_live key o b s had at recalled = (Some s, at, inl (refl, recalls_seen o key s b true had recalled))
+
+-- by the word of a kind
+
+-- nothing is remembered
+pub recalls_none : (word : ℕ) (name : Name) (a : OnCpu) → ByWord word None (λ k o. Recalls a.memory (key_with k name) o) → ByWord word None (λ k o. HasRecalledByMemory (key_with k name) a a o)
+recalls_none word name a had kind is = (None, had kind is, (refl, refl))
+
+-- what is remembered isn't live, by the load
+pub recalled_vainly : (word : ℕ) (kind : Kind) (name : Name) (a b : OnCpu) (s : Seen) → word ≡ kind_word kind → Recalls a.memory (key_with kind name) (Some s) → HasRecalledInVain s a b
+    → ByWord word None (λ k o. HasRecalledByMemory (key_with k name) a b o)
+recalled_vainly word kind name a b s is at vain other same =
+    (Some s, subst (λ (k : Kind). Recalls a.memory (key_with k name) (Some s)) (one_kind kind other (sym is ∙ same)) at, inr (refl, vain))
+
+-- it is found in the open section
+pub refinds_none : (word : ℕ) (name : Name) (a : OnCpu) → ByWord word None (λ k o. Recalls a.memory (key_with k name) o) → ByWord word None (λ k o. Refinds (key_with k name) a a o)
+refinds_none word name a had kind is = (None, had kind is, (refl, refl))
+
+pub refound_vainly : (word : ℕ) (kind : Kind) (name : Name) (a b : OnCpu) (s : Seen) → word ≡ kind_word kind → Recalls a.memory (key_with kind name) (Some s) → HasRecalledInVain s a b
+    → ByWord word None (λ k o. Refinds (key_with k name) a b o)
+refound_vainly word kind name a b s is at vain = recalled_vainly word kind name a b s is at vain
+
+pub refound_by_word : (word : ℕ) (kind : Kind) (name : Name) (a b : OnCpu) (s : Seen) → word ≡ kind_word kind → Recalls a.memory (key_with kind name) (Some s)
+    → HasRefoundAs (key_with kind name) a b (entry_with (key_with kind name) s.slot s.number s.value) → ByWord word (Some (kind, s)) (λ k o. Refinds (key_with k name) a b o)
+refound_by_word word kind name a b s is at found = (is, (Some s, at, inl (refl, found)))
 
 -- A lookup by memory
 

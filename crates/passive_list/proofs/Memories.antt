@@ -1,10 +1,12 @@
 -- What a row that is remembered tells, what stays remembered, and what is remembered from then on.
-use Rattle.passive_list.specs.Common.{Memory, HasCleared, HasForgotten, HasNumbered, IsOfRow, IsRow, IsTrueMiss, KeepsOthers, Missed, Recalls, RecallsAt, Remembers, Seen, WasAbsent, LeadBelow, entry_of, hint_at, hint_of, hinted, is_for, keeps, memo_at, memo_of, miss_at, miss_of, missed_as, no_hint, no_memo, no_memory, no_miss, with_miss, with_seen}
-use Rattle.std.proofs.Common.{◌≡◌, ◌≢◌, ⊎_elim, inl, inr, ℕ, ◌+◌, ◌%◌, ◌<◌, ◌≤◌, ◌==◌, if◌then◌else◌, min, Bool, true, false, List, length, replicate, set, get_or-set_same, get_or-set_other, Some, None, refl, sym, ap, ◌∙◌, subst, arith}
+use Rattle.passive_list.specs.Common.{Memory, HasCleared, HasForgotten, HasNumbered, HasWord, IsOfRow, IsRow, IsTrueMiss, KeepsOthers, Missed, Recalls, RecallsAt, RecallsWord, RecallsWordAt, Remembers, Seen, WasAbsent, LeadBelow, entry_of, hint_at, hint_of, hinted, is_for, keeps, memo_at, memo_of, miss_at, miss_of, missed_as, no_hint, no_memo, no_memory, no_miss, with_miss, with_seen}
+use Rattle.std.proofs.Common.{◌≡◌, ◌≢◌, ⊎_elim, inl, inr, ℕ, ◌+◌, ◌%◌, ◌<◌, ◌≤◌, ◌==◌, if◌then◌else◌, min, Bool, true, false, List, length, replicate, set, get_or-set_same, get_or-set_other, Option, Some, None, refl, sym, ap, ◌∙◌, subst, arith}
 use Rattle.std.proofs.lemmas.Bool.{cases_eq, cases_lt, eqb-true}
 use Rattle.std.proofs.lemmas.List.{length-replicate, length-set, set_past}
 use mathlib.Core.List.{IsPrefix}
-use Rattle.passive_list.specs.Types.{Change, Key, Name, MOST_SLOTS}
+use Rattle.passive_list.specs.Types.{Change, Key, Kind, Name, MOST_SLOTS}
+use Rattle.registry_values.specs.Common.{kind_word}
+use Rattle.cpu_words.specs.Common.{key_with}
 use Rattle.protocol.specs.Common.{IsAttached, entry_with}
 use Rattle.protocol.proofs.Cells.{get_or_all}
 use Rattle.protocol.proofs.Occupied.{place_cases}
@@ -12,6 +14,7 @@ use Rattle.cpu_words.proofs.shown.Seeing.{attached_prefix}
 use Rattle.passive_list.specs.declared.memory.Hint.{Hint}
 use Rattle.passive_list.specs.declared.memory.Memo.{Memo}
 use Rattle.passive_list.specs.declared.memory.Miss.{Miss}
+use Rattle.passive_list.proofs.GoingOver.{one_kind}
 use Rattle.passive_list.proofs.Walking.{live_before, prefix_length}
 use Rattle.passive_list.specs.declared.memory.TheConstants.{HINTS, MOST_MISSES, SPARE_MISSES}
 
@@ -151,6 +154,36 @@ keeps_others m key s other o apart off recalls = by recalls
       subst (λ (h : Hint). RecallsAt (set m.rows s.slot (memo_of key s)) other h.last None) (sym hints) (none_stays m.rows key other s _ apart at.0),
       found _ _ (ap (λ (h : Hint). h.older) hints) at.1,
     )
+
+-- By the word of a kind
+
+-- what is found by a kind's word is found of the kind
+pub of_word : (P : Kind → Option Seen → Type 0) (kind : Kind) (r : Kind × Seen) → (kind_word kind ≡ kind_word r.0) × P r.0 (Some r.1) → P kind (Some r.1)
+of_word P kind r had = subst (λ (k : Kind). P k (Some r.1)) (sym (one_kind kind r.0 had.0)) had.1
+
+pub row_has_word : (kind : Kind) (name : Name) (m : Memo) → IsRow (key_with kind name) m → HasWord (kind_word kind) name m
+row_has_word kind name m row = record { some = row.some; kind = ap kind_word row.kind; name = row.name }
+
+pub word_is_row : (kind : Kind) (name : Name) (m : Memo) → HasWord (kind_word kind) name m → IsRow (key_with kind name) m
+word_is_row kind name m had = record { some = had.some; kind = one_kind m.kind kind had.kind; name = had.name }
+
+pub at_word : (rows : List Memo) (word : ℕ) (name : Name) (t : ℕ) (m : Memo) → t < length rows → m ≡ memo_at rows t → HasWord word name m
+    → RecallsWordAt rows word name t (Some (m.kind, record { number = m.number; slot = t; value = m.value }))
+at_word rows word name t m few here had =
+    (sym had.kind, (refl, record { few = few; some = had.some; is = sym here ∙ λ i. record { number = m.number; value = m.value; kind = m.kind; name = had.name i } }))
+
+pub not_at_word : (rows : List Memo) (word : ℕ) (name : Name) (t : ℕ) (m : Memo) → m ≡ memo_at rows t → (HasWord word name m → ⊥) → RecallsWordAt rows word name t None
+not_at_word rows word name t m here not kind is low row =
+    not (subst (λ (w : ℕ). HasWord w name m) (sym is) (row_has_word kind name m (subst (IsRow (key_with kind name)) (sym here) row)))
+
+-- by the newer hint, or by the older one
+pub by_newer : (m : Memory) (word : ℕ) (name : Name) (r : Kind × Seen) → RecallsWordAt m.rows word name (hinted m.hints name).last (Some r) → RecallsWord m word name (Some r)
+by_newer m word name r had = (had.0, inl (r.1, refl, had.1))
+
+pub by_older : (m : Memory) (word : ℕ) (name : Name) (found : Option (Kind × Seen)) → RecallsWordAt m.rows word name (hinted m.hints name).last None
+    → RecallsWordAt m.rows word name (hinted m.hints name).older found → RecallsWord m word name found
+by_older m word name None none had = λ k is. inr (none k is, had k is)
+by_older m word name (Some r) none had = (had.0, inr (none r.0 had.0, had.1))
 
 -- Rows that are cleared
 

@@ -1,8 +1,9 @@
 -- What a CPU remembers of the entries that it has found: a row for each slot, and by hint of a name the two slots where one with that hint was found last. And as many names that no entry had.
 use Rattle.std.specs.Prelude.{◌≡◌, ◌≢◌, ◌⊎◌, ℕ, ◌+◌, ◌*◌, ◌/◌, ◌%◌, ◌^◌, ◌==◌, ◌<◌, ◌≤◌, ◌&&◌, if◌then◌else◌, min, not, Bool, List, length, set, replicate, slice_index_or, Option, Some, None, IfSome}
-use Rattle.passive_list.specs.Types.{Change, Entry, Iface, Key, Name}
-use Rattle.registry_values.specs.Common.{same_key}
+use Rattle.passive_list.specs.Types.{Change, Entry, Iface, Key, Kind, Name}
+use Rattle.registry_values.specs.Common.{kind_word, same_key}
 use Rattle.protocol.specs.Common.{IsAttached, IsLookup, entry_with}
+use Rattle.cpu_words.specs.Common.{key_with}
 use Rattle.passive_list.specs.declared.lookup.Seen.{Seen}
 use Rattle.passive_list.specs.declared.memory.Hint.{Hint}
 use Rattle.passive_list.specs.declared.memory.Memo.{Memo}
@@ -112,6 +113,28 @@ RecallsAt rows key t (Some s) = (s.slot ≡ t) × IsOfRow rows key s
 -- what the CPU remembers of the key: by the newer one of its name's hints, else by the older one
 abbrev pub Recalls : Memory → Key → Option Seen → Type 0
 Recalls m key found = ((s : Seen) × (found ≡ Some s) × RecallsAt m.rows key (hinted m.hints key.name).last found) ⊎ (RecallsAt m.rows key (hinted m.hints key.name).last None × RecallsAt m.rows key (hinted m.hints key.name).older found)
+
+-- What is remembered by the word of a kind
+
+-- What is found by a word: of each kind with the word nothing, or of one kind, whose word it is.
+abbrev pub ByWord : ℕ → Option (Kind × Seen) → (Kind → Option Seen → Type 0) → Type 0
+ByWord word None P = (k : Kind) → word ≡ kind_word k → P k None
+ByWord word (Some r) P = (word ≡ kind_word r.0) × P r.0 (Some r.1)
+
+abbrev pub IsOfNoKind : ℕ → Type 0
+IsOfNoKind word = (k : Kind) → word ≡ kind_word k → ⊥
+
+-- the row is of an entry with this name, and of a kind with this word
+pub record HasWord (word : ℕ) (called : Name) (m : Memo) : Type 0 where
+  pub some : m.number ≢ 0
+  pub kind : kind_word m.kind ≡ word
+  pub name : m.name ≡ called
+
+abbrev pub RecallsWordAt : List Memo → ℕ → Name → ℕ → Option (Kind × Seen) → Type 0
+RecallsWordAt rows word name t found = ByWord word found (λ k seen. RecallsAt rows (key_with k name) t seen)
+
+abbrev pub RecallsWord : Memory → ℕ → Name → Option (Kind × Seen) → Type 0
+RecallsWord m word name found = ByWord word found (λ k seen. Recalls m (key_with k name) seen)
 
 -- s is remembered, as the newer one
 abbrev pub with_seen : Memory → Key → Seen → Memory

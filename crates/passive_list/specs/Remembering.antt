@@ -135,6 +135,11 @@ RecallsBy (Some s) key a b answer = ((answer ≡ Some s) × HasRecalledAs key a 
 abbrev pub HasRecalledByMemory : Key → OnCpu → OnCpu → Option Seen → Type 0
 HasRecalledByMemory key a b answer = (kept : Option Seen) × Recalls a.memory key kept × RecallsBy kept key a b answer
 
+-- the same in the open section, where the entry is the last found one then
+abbrev pub Refinds : Key → OnCpu → OnCpu → Option Seen → Type 0
+Refinds key a b None = HasRecalledByMemory key a b None
+Refinds key a b (Some s) = FindsInside key a b (Some s)
+
 -- what a lookup does by what the CPU remembers of the key: nothing, or s
 abbrev pub FindsBy : Option Seen → Key → OnCpu → OnCpu → Option Seen → Type 0
 FindsBy None key a b answer = HasFoundAnew key a b answer

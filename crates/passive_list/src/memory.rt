@@ -2,10 +2,10 @@
 
 ghost use Rattle.std.specs.Prelude.{◌≡◌, ◌↔◌, ◌<◌, IfOk, IsTrue, length};
 ghost use Rattle.cpu_words.specs.Common.{key_with};
-ghost use Rattle.passive_list.specs.Memories.{HasCleared, HasForgotten, IsMiss, IsRow, Recalls, RecallsAt, hint_of, is_for, keeps, miss_at, miss_of, no_hint, no_memo, no_memory, no_miss, no_misses, with_miss, with_missed, with_seen};
+ghost use Rattle.passive_list.specs.Memories.{HasCleared, HasForgotten, HasWord, IsMiss, IsRow, Recalls, RecallsWord, RecallsWordAt, hint_of, is_for, keeps, miss_at, miss_of, no_hint, no_memo, no_memory, no_miss, no_misses, with_miss, with_missed, with_seen};
 
 use crate::lookup::Seen;
-use registry_values::{Kind, MOST_SLOTS, Name};
+use registry_values::{Kind, MOST_SLOTS, Name, kind_word};
 use std::alloc::{AllocError, Global};
 use std::marker::Model;
 
@@ -138,34 +138,46 @@ impl Memory {
         })
     }
 
-    /// The entry that is remembered with this kind and name: at the newer one of its name's hints, else at the older one.
+    /// The entry that is remembered with this kind and name.
     #[inline(always)]
     pub fn remembered(&self, kind: Kind, name: Name) -> Option<Seen>
         ensures { Recalls self.now (key_with kind name) result }
     {
-        let hint = hint_of(name);
-        let newer = self.at(self.hints[hint].last, kind, name);
-        if newer.is_some() {
-            return newer;
-        }
-        // Loaded only now: a register that is kept until then costs more.
-        self.at(self.hints[hint].older, kind, name)
+        let (_, seen) = self.remembered_by(kind_word(kind), name)?;
+        Some(seen)
     }
 
-    /// The entry of a slot, if it has this kind and name.
+    /// The entry that is remembered with this kind's word and this name, with its kind: at the newer one of its name's hints, else at the older
+    /// one. A row that has the word proves that it is a kind's.
     #[inline(always)]
-    fn at(&self, slot: u8, kind: Kind, name: Name) -> Option<Seen>
+    #[tactic(auto, using(crate::proofs::Memories::by_newer, crate::proofs::Memories::by_older))]
+    pub fn remembered_by(&self, word: u64, name: Name) -> Option<(Kind, Seen)>
+        ensures { RecallsWord self.now word name result }
+    {
+        let hint = hint_of(name);
+        if let Some(found) = self.at(self.hints[hint].last, word, name) {
+            return Some(found);
+        }
+        // Loaded only now: a register that is kept until then costs more.
+        self.at(self.hints[hint].older, word, name)
+    }
+
+    /// The entry of a slot, if it has this kind's word and this name.
+    #[inline(always)]
+    #[tactic(auto, using(crate::proofs::Memories::at_word, crate::proofs::Memories::not_at_word))]
+    fn at(&self, slot: u8, word: u64, name: Name) -> Option<(Kind, Seen)>
         requires { slot < length self.now.rows }
-        ensures { RecallsAt self.now.rows (key_with kind name) slot result }
+        ensures { RecallsWordAt self.now.rows word name slot result }
     {
         let slot = slot as usize;
         let memo = self.rows[slot];
-        if is_row_of(memo, kind, name) {
-            Some(Seen {
+        if has_word(memo, word, name) {
+            let seen = Seen {
                 number: memo.number,
                 slot: slot as u64,
                 value: memo.value,
-            })
+            };
+            Some((memo.kind, seen))
         } else {
             None
         }
@@ -328,8 +340,17 @@ fn hint_of(name: Name) -> usize
 }
 
 /// Whether the row is of an entry with this kind and name.
+#[tactic(auto, using(crate::proofs::Memories::row_has_word, crate::proofs::Memories::word_is_row))]
 fn is_row_of(memo: Memo, kind: Kind, name: Name) -> bool
     ensures { IsTrue result ↔ IsRow (key_with kind name) memo }
 {
-    memo.number != 0 && memo.kind == kind && memo.name == name
+    has_word(memo, kind_word(kind), name)
+}
+
+/// Whether the row is of an entry with this kind's word and this name.
+#[inline(always)]
+fn has_word(memo: Memo, word: u64, name: Name) -> bool
+    ensures { IsTrue result ↔ HasWord word name memo }
+{
+    memo.number != 0 && kind_word(memo.kind) == word && memo.name == name
 }

@@ -1,0 +1,13 @@
+-- The kind that the row has is the kind.
+use Rattle.std.proofs.Common.{Option, sym, ◌∙◌}
+use Rattle.passive_list.specs.Types.{Kind}
+use Rattle.cpu_words.specs.Common.{key_with}
+use Rattle.passive_list.specs.Common.{Refinds, Seen}
+use Rattle.passive_list.proofs.Memories.{of_word}
+use Rattle.passive_list.proofs.remembering.refind_remembered.Goals as goal
+
+pub returns-clause-found : goal.returns-clause-found
+returns-clause-found c =
+    let e = c.in_ok-seen.ensures.found in
+    of_word (λ (k : Kind) (s : Option Seen). Refinds (key_with k c.args.name) c.args.cpu.now.cpu c.refind_remembered_by.new.cpu.cpu s) c.args.kind (c.in_ok-seen.field-0-0, c.in_ok-seen.seen)
+    (sym c.kind_word.ensures ∙ e.0, e.1)
