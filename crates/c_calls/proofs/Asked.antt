@@ -11,8 +11,11 @@ use Rattle.c_handles.specs.declared.values.answer.NamedAnswer.{NamedAnswer}
 use Rattle.c_handles.specs.declared.values.given.GivenName.{GivenName}
 use Rattle.c_handles.specs.declared.values.plain.CEntry.{CEntry}
 use Rattle.c_handles.specs.declared.values.plain.CName.{CName}
-use Rattle.c_calls.specs.Calls.{Asks, DoesAsked, FindsFor, IsFastFor, MissesFor, Through, asked, key_or_bad, outside_or}
-use Rattle.c_handles.specs.values.Texts.{kind_in}
+use Rattle.c_calls.specs.Calls.{Asks, DoesAsked, FindsFor, IsFastFor, MissesFor, Through, asked, entry_by, key_or_bad, outside_or, words_name}
+use Rattle.c_handles.specs.values.Texts.{entry_out, kind_in, name_out}
+use Rattle.c_handles.specs.declared.values.plain.TheConstants.{BAD_KIND, BAD_NAME}
+use Rattle.protocol.specs.Common.{entry_with}
+use Rattle.registry_values.specs.Names.{are_key_words}
 use Rattle.c_calls.proofs.Passives.{through_some}
 
 -- The word of a kind
@@ -89,18 +92,42 @@ unnamed Tells kind given a name from none = subst (λ (m : Option Name). MissesF
     by None = refl
     by (Some k) = refl
 
-pub fast_none : (Tells : Key → OnCpu → OnCpu → Option Seen → Type 0) (kind : ℕ) (given : CName) (name : Name) (a b : OnPlainCpu) → Some name ≡ key_of_words given.high given.low
-    → ByWord kind None (λ c s. Tells (key_with c name) a.cpu b.cpu s) → (IsOfNoKind kind → b ≡ a) → b.words ≡ a.words → IsFastFor Tells kind given a b None
-fast_none Tells kind given name a b from had none words =
+pub fast_by : (Tells : Key → OnCpu → OnCpu → Option Seen → Type 0) (kind : ℕ) (given : CName) (name : Name) (a b : OnPlainCpu) (o : Option Seen) → Some name ≡ key_of_words given.high given.low
+    → ByWord kind o (λ c s. Tells (key_with c name) a.cpu b.cpu s) → (IsOfNoKind kind → b ≡ a) → b.words ≡ a.words → IsFastFor Tells kind given a b o
+fast_by Tells kind given name a b None from had none words =
     subst (λ (m : Option Name). MissesFor Tells (key_or_bad (kind_in kind) m) a b) from (kind_cases Tells kind name a b (kind_in kind) refl had none words)
-
-pub fast_some : (Tells : Key → OnCpu → OnCpu → Option Seen → Type 0) (kind : ℕ) (given : CName) (name : Name) (a b : OnPlainCpu) (r : Kind × Seen) → Some name ≡ key_of_words given.high given.low
-    → ByWord kind (Some r) (λ c s. Tells (key_with c name) a.cpu b.cpu s) → b.words ≡ a.words → IsFastFor Tells kind given a b (Some (key_with r.0 name, r.1))
-fast_some Tells kind given name a b r from had words = (
-  sym (λ i. key_or_bad (kind_in kind) (from i)) ∙ ap (λ (k : Option Kind). key_or_bad k (Some name)) (ap kind_in had.0 ∙ kind_is r.0),
-  had.1,
+fast_by Tells kind given name a b (Some s) from (k, is, had) none words = (
+  key_with k name,
+  sym (λ i. key_or_bad (kind_in kind) (from i)) ∙ ap (λ (c : Option Kind). key_or_bad c (Some name)) (ap kind_in is ∙ kind_is k),
+  had,
   words,
 )
+
+-- the words of a name
+name_of_given : (given : CName) (name : Name) → words_name given ≡ Some name → given ≡ name_out name
+name_of_given given name is = by (are_key_words given.high given.low) is
+  where
+    by : (b : Bool) → (if b then Some (record { high = given.high; low = given.low }) else None) ≡ Some name → given ≡ name_out name
+    by true had = ap name_out (same had)
+      where
+        same : ◌≡◌ {A = Option Name} (Some (record { high = given.high; low = given.low })) (Some name) → ◌≡◌ {A = Name} (record { high = given.high; low = given.low }) name
+        same had = cc
+    by false had = let clash : ◌≡◌ {A = Option Name} None (Some name) = had in cc
+
+-- C's words of an entry are those that C asked by
+pub written_by : (kind : ℕ) (given : CName) (key : Key) (s : Seen) → asked kind (Some given) ≡ Ok key → entry_by kind given s ≡ entry_out (entry_with key s.slot s.number s.value)
+written_by kind given key s is = by (kind_in kind) (words_name given) refl refl is
+  where
+    by : (k : Option Kind) (m : Option Name) → kind_in kind ≡ k → words_name given ≡ m → key_or_bad k m ≡ Ok key → entry_by kind given s ≡ entry_out (entry_with key s.slot s.number s.value)
+    by None m kind_is name_is had = let clash : ◌≡◌ {A = Result Key ℕ} (Err BAD_KIND) (Ok key) = had in cc
+    by (Some k) None kind_is name_is had = let clash : ◌≡◌ {A = Result Key ℕ} (Err BAD_NAME) (Ok key) = had in cc
+    by (Some k) (Some name) kind_is name_is had =
+        let word : kind ≡ kind_word k = kind_some kind k kind_is in
+        let words : given ≡ name_out name = name_of_given given name name_is in
+        (λ i. entry_by (word i) (words i) s) ∙ ap (λ (c : Key). entry_out (entry_with c s.slot s.number s.value)) (one_key had)
+      where
+        one_key : ◌≡◌ {A = Result Key ℕ} (Ok (key_with k name)) (Ok key) → key_with k name ≡ key
+        one_key had = cc
 
 -- a find outside any section
 pub finds_outside : (kind : ℕ) (given : CName) (a : OnPlainCpu) (n : ℕ) (old new : Option CEntry) → n ≡ outside_or (asked kind (Some given)) → (a.cpu.view.begin ≢ None → ⊥) → new ≡ old

@@ -102,9 +102,13 @@ abbrev pub MissesFor : (Key → OnCpu → OnCpu → Option Seen → Type 0) → 
 MissesFor Tells (Ok key) a b = Tells key a.cpu b.cpu None × (b.words ≡ a.words)
 MissesFor Tells (Err e) a b = b ≡ a
 
-abbrev pub IsFastFor : (Key → OnCpu → OnCpu → Option Seen → Type 0) → ℕ → CName → OnPlainCpu → OnPlainCpu → Option (Key × Seen) → Type 0
+abbrev pub IsFastFor : (Key → OnCpu → OnCpu → Option Seen → Type 0) → ℕ → CName → OnPlainCpu → OnPlainCpu → Option Seen → Type 0
 IsFastFor Tells kind given a b None = MissesFor Tells (asked kind (Some given)) a b
-IsFastFor Tells kind given a b (Some r) = (asked kind (Some given) ≡ Ok r.0) × Tells r.0 a.cpu b.cpu (Some r.1) × (b.words ≡ a.words)
+IsFastFor Tells kind given a b (Some s) = (key : Key) × (asked kind (Some given) ≡ Ok key) × Tells key a.cpu b.cpu (Some s) × (b.words ≡ a.words)
+
+-- the entry that was found, by C's words of its kind and its name
+abbrev pub entry_by : ℕ → CName → Seen → CEntry
+entry_by kind given s = record { number = s.number; slot = s.slot; kind = kind; name = given; value = s.value }
 
 -- the number of a find outside any section
 abbrev pub outside_or : Result Key ℕ → ℕ

@@ -8,7 +8,7 @@ ghost use Rattle.cpu_words.specs.Common.{key_with};
 ghost use Rattle.passive_list.specs.Common.{HasRecalledByMemory, OnPlainCpu, entry_seen};
 ghost use Rattle.name_registry.specs.LookingUp.{FindsFast, HasEnteredInVain, HasMissed, LooksFast, found_or, looked_up};
 ghost use Rattle.c_handles.specs.values.Texts.{entry_out, number_of};
-ghost use Rattle.c_calls.specs.Calls.{Asks, EntersAndFindsFor, FindsFor, FindsInsideFor, IsFastFor, LooksUpFor, Puts, Through, asked as asked_for, outside_or};
+ghost use Rattle.c_calls.specs.Calls.{Asks, EntersAndFindsFor, FindsFor, FindsInsideFor, IsFastFor, LooksUpFor, Puts, Through, asked as asked_for, entry_by as entry_found, outside_or};
 
 use crate::arguments::asked;
 use c_handles::CpuBody;
@@ -60,9 +60,9 @@ fn look_up_given(
     ensures call { Asks kind (Some given) result.number ((cpu.new ≡ cpu.old) × (result.place.value ≡ found.value))
         (λ key. LooksUpFor key cpu.old cpu.new result.number found.value result.place.value) }
 {
-    if let Some((key, seen)) = look_up_remembered(cpu, kind, given) {
-        let number = put_seen(Some(seen), key, &mut found);
-        return found.answer(number);
+    if let Some(seen) = look_up_remembered(cpu, kind, given) {
+        found.put(entry_by(kind, given, seen));
+        return found.answer(DONE);
     }
     look_up_rest(cpu, kind, given, found)
 }
@@ -70,15 +70,14 @@ fn look_up_given(
 /// The fast path of a lookup: the entry that the CPU remembers by C's words, if one load says that it is live. A row with these words proves
 /// that they are a key's, so nothing else judges them. `None` says nothing: `look_up_rest` follows.
 #[inline(always)]
-#[tactic(auto, using(crate::proofs::Asked::fast_none, crate::proofs::Asked::fast_some, crate::proofs::Asked::unnamed))]
-fn look_up_remembered(cpu: &mut CpuBody, kind: u32, given: CName) -> Option<(Key, Seen)>
+#[tactic(auto, using(crate::proofs::Asked::fast_by, crate::proofs::Asked::unnamed))]
+fn look_up_remembered(cpu: &mut CpuBody, kind: u32, given: CName) -> Option<Seen>
     ensures looks { IsFastFor LooksFast kind given cpu.old cpu.new result }
-    ensures slot { IfSome result (λ found. found.1.slot < MOST_SLOTS) }
+    ensures slot { IfSome result (λ seen. seen.slot < MOST_SLOTS) }
     ensures words { cpu.new.words ≡ cpu.old.words }
 {
     let name = Name::from_key_words(given.high, given.low)?;
-    let (kind, seen) = look_up_by(&cpu.words, &mut cpu.cpu, u64::from(kind), name)?;
-    Some((Key { kind, name }, seen))
+    look_up_by(&cpu.words, &mut cpu.cpu, u64::from(kind), name)
 }
 
 /// What a lookup does that its fast path didn't answer; `a` is the CPU before that. It judges the kind and the name. It stands apart, so that the
@@ -145,9 +144,9 @@ fn find_given(cpu: &mut CpuBody, kind: u32, given: CName, mut found: EntryPlace)
         let number = why_not_found(kind, given);
         return found.answer(number);
     }
-    if let Some((key, seen)) = find_remembered(cpu, kind, given) {
-        let number = put_seen(Some(seen), key, &mut found);
-        return found.answer(number);
+    if let Some(seen) = find_remembered(cpu, kind, given) {
+        found.put(entry_by(kind, given, seen));
+        return found.answer(DONE);
     }
     find_rest(cpu, kind, given, found)
 }
@@ -165,16 +164,15 @@ fn why_not_found(kind: u32, given: CName) -> u32
 
 /// The fast path of a find, as `look_up_remembered`: `find_rest` follows. Condition: inside.
 #[inline(always)]
-#[tactic(auto, using(crate::proofs::Asked::fast_none, crate::proofs::Asked::fast_some, crate::proofs::Asked::unnamed))]
-fn find_remembered(cpu: &mut CpuBody, kind: u32, given: CName) -> Option<(Key, Seen)>
+#[tactic(auto, using(crate::proofs::Asked::fast_by, crate::proofs::Asked::unnamed))]
+fn find_remembered(cpu: &mut CpuBody, kind: u32, given: CName) -> Option<Seen>
     requires inside { cpu.old.cpu.view.begin ≢ None }
     ensures looks { IsFastFor FindsFast kind given cpu.old cpu.new result }
-    ensures slot { IfSome result (λ found. found.1.slot < MOST_SLOTS) }
+    ensures slot { IfSome result (λ seen. seen.slot < MOST_SLOTS) }
     ensures words { cpu.new.words ≡ cpu.old.words }
 {
     let name = Name::from_key_words(given.high, given.low)?;
-    let (kind, seen) = find_by(&cpu.words, &mut cpu.cpu, u64::from(kind), name)?;
-    Some((Key { kind, name }, seen))
+    find_by(&cpu.words, &mut cpu.cpu, u64::from(kind), name)
 }
 
 /// What a find does that its fast path didn't answer; `a` is the CPU before that. It judges the kind and the name. It stands apart, as `look_up_rest`.
@@ -302,6 +300,20 @@ fn put_seen(seen: Option<Seen>, key: Key, found: &mut EntryPlace) -> u32
             DONE
         }
         None => refused(Refusal::NotFound),
+    }
+}
+
+/// The entry that was found, by C's words of its kind and its name.
+#[inline(always)]
+fn entry_by(kind: u32, given: CName, seen: Seen) -> CEntry
+    ensures { result ≡ entry_found kind given seen }
+{
+    CEntry {
+        number: seen.number,
+        slot: seen.slot,
+        kind: u64::from(kind),
+        name: given,
+        value: seen.value,
     }
 }
 

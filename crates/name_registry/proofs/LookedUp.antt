@@ -108,10 +108,10 @@ pub has_missed : (key : Key) (a b : OnCpu) (o : Option Seen) → MayBegin a → 
 has_missed key a b o may had none = inl (may, subst (HasRecalledByMemory key a b) none had)
 
 -- by the word of a kind
-pub looked_by_word : (word : ℕ) (name : Name) (a b : OnCpu) (o : Option (Kind × Seen)) → MayBegin a → ByWord word o (λ k s. HasRecalledByMemory (key_with k name) a b s)
+pub looked_by_word : (word : ℕ) (name : Name) (a b : OnCpu) (o : Option Seen) → MayBegin a → ByWord word o (λ k s. HasRecalledByMemory (key_with k name) a b s)
     → ByWord word o (λ k s. LooksFast (key_with k name) a b s)
 looked_by_word word name a b None may had = λ k is. inl (may, had k is)
-looked_by_word word name a b (Some r) may had = (had.0, looked_by_load (key_with r.0 name) a b (Some r.1) may had.1)
+looked_by_word word name a b (Some s) may (k, is, had) = (k, is, looked_by_load (key_with k name) a b (Some s) may had)
 
 pub looked_anew : (key : Key) (a c b : OnCpu) (o : Option Seen) → HasMissed key a c → MayBegin c → HasFoundAnew key c b o → LooksUp key a b (found_or (entry_seen key o))
 looked_anew key a c b o (inl (may, had)) now anew =
@@ -131,9 +131,9 @@ pub found_by_load : (key : Key) (a b : OnCpu) (o : Option Seen) → IfSome o (λ
 found_by_load key a b None had = tt
 found_by_load key a b (Some s) had = record { seen = Some s; is = refl; finds = had; stays = inside_stays key a b (Some s) had; kept = inside_kept key a b (Some s) had }
 
-pub found_by_word : (word : ℕ) (name : Name) (a b : OnCpu) (o : Option (Kind × Seen)) → ByWord word o (λ k s. Refinds (key_with k name) a b s) → ByWord word o (λ k s. FindsFast (key_with k name) a b s)
+pub found_by_word : (word : ℕ) (name : Name) (a b : OnCpu) (o : Option Seen) → ByWord word o (λ k s. Refinds (key_with k name) a b s) → ByWord word o (λ k s. FindsFast (key_with k name) a b s)
 found_by_word word name a b None had = had
-found_by_word word name a b (Some r) had = (had.0, found_by_load (key_with r.0 name) a b (Some r.1) had.1)
+found_by_word word name a b (Some s) (k, is, had) = (k, is, found_by_load (key_with k name) a b (Some s) had)
 
 pub found_after : (key : Key) (a c b : OnCpu) (o : Option Seen) → HasRecalledByMemory key a c None → HasFoundKept key c b o → LooksInside key a b (found_or (entry_seen key o))
 found_after key a c b o missed kept =

@@ -4,7 +4,7 @@
 ghost use Rattle.std.specs.Prelude.{◌≡◌, ◌≢◌, ◌<◌, IfOk, IfSome, IsTrue, None, Ok, Some};
 ghost use Rattle.protocol.specs.Common.{entry_with};
 ghost use Rattle.cpu_words.specs.Common.{AreWordsOf, key_with};
-ghost use Rattle.passive_list.specs.Common.{ByWord, HasRecalledByMemory, IsOfNoKind, OnCpu, entry_seen, may_begin};
+ghost use Rattle.passive_list.specs.Common.{ByWord, HasRecalledByMemory, IsOfNoKind, IsSome, OnCpu, entry_seen, may_begin};
 ghost use Rattle.name_registry.specs.LookingUp.{EntersAndFinds, FindsAndAcquires, FindsFast, Gets, GetsAnew, GetsFound, GetsInSection, HasEnteredInVain, HasMissed, HasNotGot, LooksFast, LooksInside, LooksUp, MayBegin, found_or, got_of, looked_up};
 
 use crate::registry::Registry;
@@ -80,19 +80,16 @@ fn look_up_fast(words: &Words, cpu: &mut PlainCpu, key: Key) -> Option<Seen>
     None
 }
 
-/// `look_up_fast` by the word of a kind, with that kind. If it is the word of no kind, nothing changes.
+/// `look_up_fast` by the word of a kind. If it is the word of no kind, nothing changes.
+/// Conditions: the words are the CPU's table's; the word is a kind's, or not both words of the name are 0.
 #[inline(always)]
 #[tactic(auto, using(crate::proofs::LookedUp::looked_by_word))]
-pub fn look_up_by(
-    words: &Words,
-    cpu: &mut PlainCpu,
-    word: u64,
-    name: Name,
-) -> Option<(Kind, Seen)>
+pub fn look_up_by(words: &Words, cpu: &mut PlainCpu, word: u64, name: Name) -> Option<Seen>
     requires words { AreWordsOf words.now cpu.old.words.table cpu.old.words.settings }
+    requires some { IsSome word name }
     ensures looks { ByWord word result (λ kind seen. LooksFast (key_with kind name) cpu.old.cpu cpu.new.cpu seen) }
     ensures no_kind { IsOfNoKind word → cpu.new ≡ cpu.old }
-    ensures slot { IfSome result (λ found. found.1.slot < MOST_SLOTS) }
+    ensures slot { IfSome result (λ seen. seen.slot < MOST_SLOTS) }
     ensures words { cpu.new.words ≡ cpu.old.words }
 {
     if may_begin_on(words, cpu) {
@@ -175,20 +172,17 @@ fn find_fast(words: &Words, cpu: &mut PlainCpu, key: Key) -> Option<Seen>
     refind_remembered(words, cpu, key.kind, key.name)
 }
 
-/// `find_fast` by the word of a kind, with that kind. If it is the word of no kind, nothing changes.
+/// `find_fast` by the word of a kind. If it is the word of no kind, nothing changes.
+/// Conditions: the words are the CPU's table's; inside; the word is a kind's, or not both words of the name are 0.
 #[inline(always)]
 #[tactic(auto, using(crate::proofs::LookedUp::found_by_word))]
-pub fn find_by(
-    words: &Words,
-    cpu: &mut PlainCpu,
-    word: u64,
-    name: Name,
-) -> Option<(Kind, Seen)>
+pub fn find_by(words: &Words, cpu: &mut PlainCpu, word: u64, name: Name) -> Option<Seen>
     requires words { AreWordsOf words.now cpu.old.words.table cpu.old.words.settings }
     requires inside { cpu.old.cpu.view.begin ≢ None }
+    requires some { IsSome word name }
     ensures looks { ByWord word result (λ kind seen. FindsFast (key_with kind name) cpu.old.cpu cpu.new.cpu seen) }
     ensures no_kind { IsOfNoKind word → cpu.new ≡ cpu.old }
-    ensures slot { IfSome result (λ found. found.1.slot < MOST_SLOTS) }
+    ensures slot { IfSome result (λ seen. seen.slot < MOST_SLOTS) }
     ensures words { cpu.new.words ≡ cpu.old.words }
 {
     refind_remembered_by(words, cpu, word, name)

@@ -4,8 +4,8 @@
 
 ghost use Rattle.std.specs.Prelude.{◌≡◌, ◌≢◌, ◌<◌, ◌≤◌, None, ◌↔◌, IfSome, IsTrue, Some, true};
 ghost use Rattle.cpu_words.specs.Common.{AreWordsOf, key_with};
-ghost use Rattle.passive_list.specs.Remembering.{HasRecalledHeadOn, HasRecalledOn, HasRefoundOn, HasSeen, FindsInside, FindsWhatIsKept, FindsWhatStays, HasFoundAnew, HasFoundByMemory, HasFoundInSection, HasFoundKept, HasRecalledByMemory, Refinds, RefindsSeen, RemembersAnswer};
-ghost use Rattle.passive_list.specs.Memories.{ByWord, HasNumbered, IsOfNoKind, IsMiss, IsTrueMiss, Recalls, WasAbsent, miss_of, with_miss};
+ghost use Rattle.passive_list.specs.Remembering.{HasRecalledHeadOn, HasRecalledOn, HasRefoundOn, HasSeen, FindsInside, FindsWhatIsKept, FindsWhatStays, HasFoundAnew, HasFoundByMemory, HasFoundInSection, HasFoundKept, HasRecalledByMemory, Refinds, RefindsSeen, RemembersAnswer, RemembersSo};
+ghost use Rattle.passive_list.specs.Memories.{ByWord, HasNumbered, IsOfNoKind, IsMiss, IsSome, IsTrueMiss, Recalls, WasAbsent, miss_of, with_miss};
 ghost use Rattle.passive_list.specs.Cpus.{may_begin};
 ghost use Rattle.passive_list.specs.Lookups.{entry_seen};
 
@@ -13,6 +13,7 @@ use crate::from_outside::find_from_outside;
 use crate::lookup::{Seen, find_seen, keep};
 use crate::memory::Miss;
 use crate::plain_cpu::PlainCpu;
+use crate::walks::kind_of;
 use cpu_words::{Words, steps};
 use registry_values::{Kind, MOST_SLOTS, Name, kind_word};
 
@@ -92,13 +93,11 @@ pub fn recall_remembered(words: &Words, cpu: &mut PlainCpu, kind: Kind, name: Na
     ensures slot { IfSome result (λ seen. seen.slot < MOST_SLOTS) }
     ensures words { cpu.new.words ≡ cpu.old.words }
 {
-    let (_, seen) = recall_remembered_by(words, cpu, kind_word(kind), name)?;
-    Some(seen)
+    recall_remembered_by(words, cpu, kind_word(kind), name)
 }
 
-/// The same by the word of a kind, which a row that has it proves to be one: the result has that kind, too. If it is the word of no kind, nothing
-/// changes.
-/// Condition: the words are the CPU's table's.
+/// The same by the word of a kind: an entry's row that has the word proves that it is one. If it is the word of no kind, nothing changes.
+/// Conditions: the words are the CPU's table's; the word is a kind's, or not both words of the name are 0.
 #[inline(always)]
 #[tactic(auto, using(crate::proofs::ByMemory::recalls_none))]
 pub fn recall_remembered_by(
@@ -106,18 +105,19 @@ pub fn recall_remembered_by(
     cpu: &mut PlainCpu,
     word: u64,
     name: Name,
-) -> Option<(Kind, Seen)>
+) -> Option<Seen>
     requires words { AreWordsOf words.now cpu.old.words.table cpu.old.words.settings }
+    requires some { IsSome word name }
     ensures found { ByWord word result (λ kind seen. HasRecalledByMemory (key_with kind name) cpu.old.cpu cpu.new.cpu seen) }
     ensures no_kind { IsOfNoKind word → cpu.new ≡ cpu.old }
-    ensures slot { IfSome result (λ found. found.1.slot < MOST_SLOTS) }
+    ensures slot { IfSome result (λ seen. seen.slot < MOST_SLOTS) }
     ensures words { cpu.new.words ≡ cpu.old.words }
 {
-    let (kind, seen) = remembered_by(cpu, word, name)?;
+    let seen = remembered_by(cpu, word, name)?;
     let live = steps::recall(words, &mut cpu.seat, cpu.row.cpu, seen.slot as u8);
     let is_live = live == seen.number;
     if is_live {
-        return Some((kind, seen));
+        return Some(seen);
     }
     None
 }
@@ -128,16 +128,16 @@ pub fn remembered(cpu: &PlainCpu, kind: Kind, name: Name) -> Option<Seen>
     ensures recalled { Recalls cpu.now.cpu.memory (key_with kind name) result }
     ensures seen { IfSome result (λ seen. HasSeen cpu.now (key_with kind name) seen) }
 {
-    cpu.memory.remembered(kind, name)
+    remembered_by(cpu, kind_word(kind), name)
 }
 
-/// The same by the word of a kind, with that kind.
+/// The same by the word of a kind. Condition: it is a kind's, or not both words of the name are 0.
 #[inline(always)]
-fn remembered_by(cpu: &PlainCpu, word: u64, name: Name) -> Option<(Kind, Seen)>
-    ensures recalled { ByWord word result (λ kind seen. Recalls cpu.now.cpu.memory (key_with kind name) seen) }
-    ensures seen { IfSome result (λ found. HasSeen cpu.now (key_with found.0 name) found.1) }
+fn remembered_by(cpu: &PlainCpu, word: u64, name: Name) -> Option<Seen>
+    requires { IsSome word name }
+    ensures { ByWord word result (RemembersSo cpu.now name) }
 {
-    cpu.memory.remembered_by(word, name)
+    cpu.memory.remembered(word, name)
 }
 
 /// Looks an entry up anew: there is none, if no entry is live, or if the newest live one is that of the last miss. Else in a section.
@@ -253,30 +253,30 @@ pub fn refind_remembered(words: &Words, cpu: &mut PlainCpu, kind: Kind, name: Na
     ensures slot { IfSome result (λ seen. seen.slot < MOST_SLOTS) }
     ensures words { cpu.new.words ≡ cpu.old.words }
 {
-    let (_, seen) = refind_remembered_by(words, cpu, kind_word(kind), name)?;
-    Some(seen)
+    refind_remembered_by(words, cpu, kind_word(kind), name)
 }
 
-/// The same by the word of a kind, with that kind. If it is the word of no kind, nothing changes.
-/// Conditions: the words are the CPU's table's; inside.
+/// The same by the word of a kind. If it is the word of no kind, nothing changes.
+/// Conditions: the words are the CPU's table's; inside; the word is a kind's, or not both words of the name are 0.
 #[inline(always)]
-#[tactic(auto, using(crate::proofs::ByMemory::refinds_none, crate::proofs::ByMemory::refound_by_word))]
+#[tactic(auto, using(crate::proofs::ByMemory::refinds_none))]
 pub fn refind_remembered_by(
     words: &Words,
     cpu: &mut PlainCpu,
     word: u64,
     name: Name,
-) -> Option<(Kind, Seen)>
+) -> Option<Seen>
     requires words { AreWordsOf words.now cpu.old.words.table cpu.old.words.settings }
     requires inside { cpu.old.cpu.view.begin ≢ None }
+    requires some { IsSome word name }
     ensures found { ByWord word result (λ kind seen. Refinds (key_with kind name) cpu.old.cpu cpu.new.cpu seen) }
     ensures no_kind { IsOfNoKind word → cpu.new ≡ cpu.old }
-    ensures slot { IfSome result (λ found. found.1.slot < MOST_SLOTS) }
+    ensures slot { IfSome result (λ seen. seen.slot < MOST_SLOTS) }
     ensures words { cpu.new.words ≡ cpu.old.words }
 {
-    let (kind, seen) = remembered_by(cpu, word, name)?;
-    if refind_seen(words, cpu, kind, name, seen) {
-        return Some((kind, seen));
+    let seen = remembered_by(cpu, word, name)?;
+    if refind_seen(words, cpu, kind_of(word), name, seen) {
+        return Some(seen);
     }
     None
 }

@@ -1,23 +1,22 @@
 -- What the fast path found is written. What it didn't answer the rest does.
-use Rattle.std.proofs.Common.{Option, Some, None, refl, sym, ap, subst, ◌∙◌}
+use Rattle.std.proofs.Common.{◌≢◌, Option, Some, None, refl, sym, ap, subst, ◌∙◌}
 use Rattle.passive_list.specs.Common.{OnPlainCpu, entry_seen}
-use Rattle.name_registry.specs.LookingUp.{LooksInside, found_or}
+use Rattle.name_registry.specs.LookingUp.{LooksInside, FindsFast, found_or}
 use Rattle.c_handles.specs.declared.values.answer.EntryAnswer.{EntryAnswer}
-use Rattle.c_handles.specs.declared.values.plain.CEntry.{CEntry}
-use Rattle.c_handles.specs.values.Texts.{entry_out}
-use Rattle.c_calls.specs.Calls.{Puts, FindsFor, asked}
-use Rattle.c_calls.proofs.Asked.{asks_good, finds_outside}
+use Rattle.c_handles.specs.values.Places.{put}
+use Rattle.c_calls.specs.Calls.{IsFastFor, FindsFor, asked}
+use Rattle.c_calls.proofs.Asked.{asks_good, finds_outside, written_by}
 use Rattle.c_calls.proofs.lookups.find_given.Goals as goal
 
 pub returns-in-Some-clause-call : goal.returns-in-Some-clause-call
 returns-in-Some-clause-call c =
-    let key = c.in-Some.key in
+    let e = c.in-Some.ensures.looks in
+    let key = e.0 in
     let found = found_or (entry_seen key (Some c.in-Some.seen)) in
-    let e = c.in-Some.ensures in
-    asks_good c.args.kind (Some c.args.given) key _ _ (λ k. FindsFor k c.args.cpu.now _ _ _ _) (asked c.args.kind (Some c.args.given)) refl e.looks.0 (record {
+    asks_good c.args.kind (Some c.args.given) key _ _ _ (asked c.args.kind (Some c.args.given)) refl e.1 (record { outside = λ none. absurd (within none); inside = λ _. record {
       r = found;
-      number = ap (λ (r : EntryAnswer). r.number) c.answer.ensures ∙ c.put_seen-number.ensures.number;
-      does = e.looks.1;
-      words = e.looks.2;
-      writes = subst (λ (v : Option CEntry). Puts entry_out found c.args.found.value v) (sym (ap (λ (r : EntryAnswer). r.place.value) c.answer.ensures)) c.put_seen-number.ensures.written;
-    })
+      number = ap (λ (r : EntryAnswer). r.number) c.answer-2.ensures;
+      does = e.2;
+      words = e.3;
+      writes = ap (λ (r : EntryAnswer). r.place.value) c.answer-2.ensures ∙ c.put.ensures.value ∙ ap (put c.args.found.value) (c.entry_by.ensures ∙ written_by c.args.kind c.args.given key c.in-Some.seen e.1);
+    } })
