@@ -11,7 +11,7 @@ use Rattle.c_handles.specs.declared.values.answer.NamedAnswer.{NamedAnswer}
 use Rattle.c_handles.specs.declared.values.given.GivenName.{GivenName}
 use Rattle.c_handles.specs.declared.values.plain.CEntry.{CEntry}
 use Rattle.c_handles.specs.declared.values.plain.CName.{CName}
-use Rattle.c_calls.specs.Calls.{Asks, DoesAsked, FindsFor, IsFastFor, MissesFor, Through, asked, entry_by, key_or_bad, outside_or, words_name}
+use Rattle.c_calls.specs.Calls.{Asks, DoesAsked, FindsFor, FindsInsideFor, IsFastFor, MissesFor, Through, asked, entry_by, key_or_bad, outside_or, words_name}
 use Rattle.c_handles.specs.values.Texts.{entry_out, kind_in, name_out}
 use Rattle.c_handles.specs.declared.values.plain.TheConstants.{BAD_KIND, BAD_NAME}
 use Rattle.protocol.specs.Common.{entry_with}
@@ -130,10 +130,19 @@ written_by kind given key s is = by (kind_in kind) (words_name given) refl refl 
         one_key had = cc
 
 -- a find outside any section
-pub finds_outside : (kind : ℕ) (given : CName) (a : OnPlainCpu) (n : ℕ) (old new : Option CEntry) → n ≡ outside_or (asked kind (Some given)) → (a.cpu.view.begin ≢ None → ⊥) → new ≡ old
-    → Asks kind (Some given) n ((a ≡ a) × (new ≡ old)) (λ key. FindsFor key a a n old new)
-finds_outside kind given a n old new is not same = record { does = by (asked kind (Some given)) is }
+pub finds_outside : (kind : ℕ) (given : CName) (a b : OnPlainCpu) (n : ℕ) (old new : Option CEntry) → n ≡ outside_or (asked kind (Some given)) → (a.cpu.view.begin ≢ None → ⊥) → b ≡ a → new ≡ old
+    → Asks kind (Some given) n ((b ≡ a) × (new ≡ old)) (λ key. FindsFor key a b n old new)
+finds_outside kind given a b n old new is not same kept = record { does = by (asked kind (Some given)) is }
   where
-    by : (r : Result Key ℕ) → n ≡ outside_or r → DoesAsked r n ((a ≡ a) × (new ≡ old)) (λ key. FindsFor key a a n old new)
-    by (Ok key) number = record { outside = λ none. (number, refl, same); inside = λ within. absurd (not within) }
-    by (Err e) number = (number, refl, same)
+    by : (r : Result Key ℕ) → n ≡ outside_or r → DoesAsked r n ((b ≡ a) × (new ≡ old)) (λ key. FindsFor key a b n old new)
+    by (Ok key) number = record { outside = λ none. (number, same, kept); inside = λ within. absurd (not within) }
+    by (Err e) number = (number, (same, kept))
+
+-- and inside, by what the rest did
+pub finds_inside : (kind : ℕ) (given : CName) (a b : OnPlainCpu) (n : ℕ) (old new : Option CEntry) → a.cpu.view.begin ≢ None → Asks kind (Some given) n ((b ≡ a) × (new ≡ old)) (λ key. FindsInsideFor key a b n old new)
+    → Asks kind (Some given) n ((b ≡ a) × (new ≡ old)) (λ key. FindsFor key a b n old new)
+finds_inside kind given a b n old new within had = record { does = by (asked kind (Some given)) had.does }
+  where
+    by : (r : Result Key ℕ) → DoesAsked r n ((b ≡ a) × (new ≡ old)) (λ key. FindsInsideFor key a b n old new) → DoesAsked r n ((b ≡ a) × (new ≡ old)) (λ key. FindsFor key a b n old new)
+    by (Ok key) found = record { outside = λ none. absurd (within none); inside = λ _. found }
+    by (Err e) same = same

@@ -50,12 +50,7 @@ pub fn look_up(
 
 /// The same by C's words.
 #[inline(always)]
-fn look_up_given(
-    cpu: &mut CpuBody,
-    kind: u32,
-    given: CName,
-    mut found: EntryPlace,
-) -> EntryAnswer
+fn look_up_given(cpu: &mut CpuBody, kind: u32, given: CName, mut found: EntryPlace) -> EntryAnswer
     ensures place { result.place.at ≡ found.at }
     ensures call { Asks kind (Some given) result.number ((cpu.new ≡ cpu.old) × (result.place.value ≡ found.value))
         (λ key. LooksUpFor key cpu.old cpu.new result.number found.value result.place.value) }
@@ -113,12 +108,7 @@ fn look_up_key(cpu: &mut CpuBody, key: Key, mut found: EntryPlace) -> EntryAnswe
 }
 
 /// `kupaldiz_find` of the header.
-pub fn find(
-    cpu: &mut CpuHandle,
-    kind: u32,
-    mut name: GivenName,
-    found: EntryPlace,
-) -> NamedAnswer
+pub fn find(cpu: &mut CpuHandle, kind: u32, mut name: GivenName, found: EntryPlace) -> NamedAnswer
     ensures places { (result.name ≡ name) × (result.place.at ≡ found.at) }
     ensures call { Through cpu.old.body cpu.new.body result.number (result.place.value ≡ found.value)
         (λ a b. Asks kind name.name result.number ((b ≡ a) × (result.place.value ≡ found.value))

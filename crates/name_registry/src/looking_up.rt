@@ -11,8 +11,8 @@ use crate::registry::Registry;
 use cpu_words::{Domain, Words};
 use passive_list::{
     Cpu, PlainCpu, Seen, enter_on, exit_on, find_and_remember, find_anew, find_by_memory,
-    find_inside_on, may_begin_on, recall_remembered, recall_remembered_by,
-    refind_remembered, refind_remembered_by,
+    find_inside_on, may_begin_on, recall_remembered, recall_remembered_by, refind_remembered,
+    refind_remembered_by,
 };
 use passive_ref::{Psref, acquire_on, get_by_memory};
 use registry_values::{Entry, Key, Kind, MOST_SLOTS, Name, Record, Refusal};

@@ -223,6 +223,20 @@ still_none m n w key other t u had none low row = ⊎_elim
     (λ (gone : IsRow w key.name (memo_at m.rows u) × (memo_at n.rows u ≡ no_memo)). wordless other.kind (sym row.kind ∙ ap (λ (m : Memo). m.kind) gone.1))
     (had.each u)
 
+cleared_stays : (z : ℕ) (h : List Change) (m n : Memory) (word : ℕ) (name : Name) (t : ℕ) → HasCleared word name t m n → Remembers z h m → Remembers z h n
+cleared_stays z h m n word name t had was = record {
+  size = had.size ∙ was.size;
+  hints = ap (λ (x : Memory). length x.hints) had.is ∙ was.hints;
+  each = λ u. ⊎_elim
+      (λ (same : memo_at n.rows u ≡ memo_at m.rows u). subst (λ (r : Memo). (r ≡ no_memo) ⊎ IsEntrys z h u r) (sym same) (was.each u))
+      (λ (gone : IsRow word name (memo_at m.rows u) × (memo_at n.rows u ≡ no_memo)). inl gone.1)
+      (had.each u);
+  absent = subst (λ (x : Missed). (i : ℕ) → IsTrueMiss h (miss_at x.places i)) (sym (ap (λ (x : Memory). x.missed) had.is)) was.absent;
+}
+
+pub forgotten_stays : (z : ℕ) (h : List Change) (m n : Memory) (key : Key) → HasForgotten key m n → Remembers z h m → Remembers z h n
+forgotten_stays z h m n key had was = cleared_stays z h had.0 n (kind_word key.kind) key.name _ had.2 (cleared_stays z h m had.0 (kind_word key.kind) key.name _ had.1 was)
+
 pub none_recalled : (m n : Memory) (key : Key) → HasForgotten key m n → Recalls n key None
 none_recalled m n key had =
     let c = had.0 in

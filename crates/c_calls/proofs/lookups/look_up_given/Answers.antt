@@ -20,3 +20,6 @@ returns-in-Some-clause-call c =
       words = e.3;
       writes = ap (λ (r : EntryAnswer). r.place.value) c.answer.ensures ∙ c.put.ensures.value ∙ ap (put c.args.found.value) (c.entry_by.ensures ∙ written_by c.args.kind c.args.given key c.in-Some.seen e.1);
     })
+
+pub returns-clause-call : goal.returns-clause-call
+returns-clause-call c = c.look_up_rest.ensures.call c.args.cpu.now c.in_default.ensures.looks

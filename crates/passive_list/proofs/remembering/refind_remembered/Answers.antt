@@ -1,5 +1,5 @@
 -- The kind's word is that kind's.
-use Rattle.std.proofs.Common.{Option, Some, None, IfSome, ◌≡◌, ap, subst, tt}
+use Rattle.std.proofs.Common.{Option}
 use Rattle.passive_list.specs.Types.{Kind}
 use Rattle.cpu_words.specs.Common.{key_with}
 use Rattle.passive_list.specs.Common.{Refinds, Seen}

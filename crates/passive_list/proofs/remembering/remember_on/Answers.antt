@@ -3,7 +3,7 @@ use Rattle.std.proofs.Common.{◌≡◌, Option, Some, None, IfSome, ap, subst, 
 use Rattle.cpu_words.specs.Common.{key_with}
 use Rattle.passive_list.specs.Common.{Memory, HasSeen, IsOurCpu, OnPlainCpu, RemembersAnswer, Seen}
 use Rattle.passive_list.proofs.Agreeing.{memory_agrees}
-use Rattle.passive_list.proofs.Memories.{keeps_others, none_recalled, others_kept, recalls_seen, remembers_more}
+use Rattle.passive_list.proofs.Memories.{forgotten_stays, keeps_others, none_recalled, others_kept, recalls_seen, remembers_more}
 use Rattle.passive_list.proofs.remembering.remember_on.Goals as goal
 
 pub invariant_of-cpu : goal.invariant_of-cpu
@@ -15,6 +15,10 @@ invariant_of-cpu c =
     let i = c.cpu.inside in
     subst (λ (m : Memory). IsOurCpu i.seat.table i.seat.view.settings i.seat.table i.seat.view i.row i.ended i.depth i.found i.passive.items i.net.items m) (sym c.remember.ensures)
     (memory_agrees _ _ _ _ _ _ _ _ _ _ _ _ c.cpu.invariant (remembers_more _ _ _ key s c.cpu.invariant.memory here.slots here.attached))
+
+pub invariant_of-cpu-in-None : goal.invariant_of-cpu-in-None
+invariant_of-cpu-in-None c =
+    memory_agrees _ _ _ _ _ _ _ _ _ _ _ _ c.cpu.invariant (forgotten_stays _ _ _ _ (key_with c.args.kind c.args.name) c.forget.ensures c.cpu.invariant.memory)
 
 pub returns-in-Some-clause-remembers : goal.returns-in-Some-clause-remembers
 returns-in-Some-clause-remembers c =

@@ -1,5 +1,4 @@
 -- The kind's word is that kind's.
-use Rattle.std.proofs.Common.{subst}
 use Rattle.passive_list.specs.Common.{RemembersSo}
 use Rattle.passive_list.proofs.Memories.{kind_is_some, of_word}
 use Rattle.passive_list.proofs.remembering.remembered.Goals as goal

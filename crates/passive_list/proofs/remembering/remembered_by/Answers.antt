@@ -8,4 +8,4 @@ use Rattle.passive_list.proofs.remembering.remembered_by.Goals as goal
 pub returns : goal.returns
 returns c =
     subst (λ (o : OnPlainCpu). ByWord c.args.word c.remembered.result (RemembersSo o c.args.name)) c.cpu.view_is
-    (remembers_by _ c.args.word c.args.name c.remembered.result c.cpu.invariant.memory ((ranges _ c.cpu.invariant.fit).slots) c.requires c.remembered.ensures)
+    (remembers_by _ c.args.word c.args.name c.remembered.result c.cpu.invariant.memory ((ranges c.cpu.inside.seat.view.settings c.cpu.invariant.fit).slots) c.requires c.remembered.ensures)
