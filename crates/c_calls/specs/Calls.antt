@@ -96,8 +96,8 @@ pub record TellsEntry (Does : OnCpu → OnCpu → Result Entry Refusal → Type 
   pub words : b.words ≡ a.words
   pub writes : Puts entry_out r old new
 
--- The fast path of a lookup by C's words. Tells says what is so of the key that they ask for, and the
--- entry that was found. If they ask for none, nothing has changed.
+-- The fast path of a lookup by C's words. Tells says what is so of the key that they ask for, and
+-- the entry that was found. If they ask for none, nothing has changed.
 abbrev pub MissesFor : (Key → OnCpu → OnCpu → Option Seen → Type 0) → Result Key ℕ → OnPlainCpu → OnPlainCpu → Type 0
 MissesFor Tells (Ok key) a b = Tells key a.cpu b.cpu None × (b.words ≡ a.words)
 MissesFor Tells (Err e) a b = b ≡ a

@@ -62,8 +62,9 @@ fn look_up_given(cpu: &mut CpuBody, kind: u32, given: CName, mut found: EntryPla
     look_up_rest(cpu, kind, given, found)
 }
 
-/// The fast path of a lookup: the entry that the CPU remembers by C's words, if one load says that it is live. A row with these words proves
-/// that they are a key's, so nothing else judges them. `None` says nothing: `look_up_rest` follows.
+/// The fast path of a lookup: the entry that the CPU remembers by C's words, if one load says that
+/// it is live. A row with these words proves that they are a key's, so nothing else judges them.
+/// `None` says nothing: `look_up_rest` follows.
 #[inline(always)]
 #[tactic(auto, using(crate::proofs::Asked::fast_by, crate::proofs::Asked::unnamed))]
 fn look_up_remembered(cpu: &mut CpuBody, kind: u32, given: CName) -> Option<Seen>
@@ -75,8 +76,8 @@ fn look_up_remembered(cpu: &mut CpuBody, kind: u32, given: CName) -> Option<Seen
     look_up_by(&cpu.words, &mut cpu.cpu, u64::from(kind), name)
 }
 
-/// What a lookup does that its fast path didn't answer; `a` is the CPU before that. It judges the kind and the name. It stands apart, so that the
-/// fast path saves no register for it.
+/// What a lookup does that its fast path didn't answer; `a` is the CPU before that. It judges the
+/// kind and the name. It stands apart, so that the fast path saves no register for it.
 #[inline(never)]
 fn look_up_rest(cpu: &mut CpuBody, kind: u32, given: CName, found: EntryPlace) -> EntryAnswer
     ensures place { result.place.at ≡ found.at }
@@ -165,7 +166,8 @@ fn find_remembered(cpu: &mut CpuBody, kind: u32, given: CName) -> Option<Seen>
     find_by(&cpu.words, &mut cpu.cpu, u64::from(kind), name)
 }
 
-/// What a find does that its fast path didn't answer; `a` is the CPU before that. It judges the kind and the name. It stands apart, as `look_up_rest`.
+/// What a find does that its fast path didn't answer; `a` is the CPU before that. It judges the
+/// kind and the name. It stands apart, as `look_up_rest`.
 #[inline(never)]
 fn find_rest(cpu: &mut CpuBody, kind: u32, given: CName, found: EntryPlace) -> EntryAnswer
     requires inside { cpu.old.cpu.view.begin ≢ None }

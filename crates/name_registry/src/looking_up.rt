@@ -81,7 +81,8 @@ fn look_up_fast(words: &Words, cpu: &mut PlainCpu, key: Key) -> Option<Seen>
 }
 
 /// `look_up_fast` by the word of a kind. If it is the word of no kind, nothing changes.
-/// Conditions: the words are the CPU's table's; the word is a kind's, or not both words of the name are 0.
+/// Conditions: the words are the CPU's table's; the word is a kind's, or not both words of the name
+/// are 0.
 #[inline(always)]
 #[tactic(auto, using(crate::proofs::LookedUp::looked_by_word))]
 pub fn look_up_by(words: &Words, cpu: &mut PlainCpu, word: u64, name: Name) -> Option<Seen>
@@ -173,7 +174,8 @@ fn find_fast(words: &Words, cpu: &mut PlainCpu, key: Key) -> Option<Seen>
 }
 
 /// `find_fast` by the word of a kind. If it is the word of no kind, nothing changes.
-/// Conditions: the words are the CPU's table's; inside; the word is a kind's, or not both words of the name are 0.
+/// Conditions: the words are the CPU's table's; inside; the word is a kind's, or not both words of
+/// the name are 0.
 #[inline(always)]
 #[tactic(auto, using(crate::proofs::LookedUp::found_by_word))]
 pub fn find_by(words: &Words, cpu: &mut PlainCpu, word: u64, name: Name) -> Option<Seen>

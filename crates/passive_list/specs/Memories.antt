@@ -126,7 +126,8 @@ RecallsWords m word name found = ((s : Seen) × (found ≡ Some s) × RecallsAt 
 abbrev pub Recalls : Memory → Key → Option Seen → Type 0
 Recalls m key found = RecallsWords m (kind_word key.kind) key.name found
 
--- What is found by a kind's word: of each kind with the word nothing, or of one kind, whose word it is.
+-- What is found by a kind's word: of each kind with the word nothing, or of one kind, whose word it
+-- is.
 abbrev pub ByWord : ℕ → Option Seen → (Kind → Option Seen → Type 0) → Type 0
 ByWord word None P = (k : Kind) → word ≡ kind_word k → P k None
 ByWord word (Some s) P = (k : Kind) × (word ≡ kind_word k) × P k (Some s)
@@ -149,7 +150,8 @@ with_seen m key s = record m {
 abbrev pub KeepsOthers : Key → Option ℕ → Memory → Memory → Type 0
 KeepsOthers key t m n = (other : Key) (s : Seen) → hint_of other.name ≢ hint_of key.name → IfSome t (λ u. s.slot ≢ u) → Recalls m other (Some s) → Recalls n other (Some s)
 
--- The row of the slot t doesn't have the word and the name, if it is there. Each row is as before, but for some that had them and are of no entry now.
+-- The row of the slot t doesn't have the word and the name, if it is there. Each row is as before,
+-- but for some that had them and are of no entry now.
 pub record HasCleared (word : ℕ) (name : Name) (t : ℕ) (m n : Memory) : Type 0 where
   pub is : n ≡ record m { rows = n.rows }
   pub size : length n.rows ≡ length m.rows

@@ -138,8 +138,8 @@ impl Memory {
         })
     }
 
-    /// What is remembered with this kind's word and this name: at the newer one of its name's hints, else at the older one. A row of no entry has
-    /// the word 0, and the name of two words 0.
+    /// What is remembered with this kind's word and this name: at the newer one of its name's
+    /// hints, else at the older one. A row of no entry has the word 0, and the name of two words 0.
     #[inline(always)]
     #[tactic(auto, using(crate::proofs::Memories::by_newer, crate::proofs::Memories::by_older))]
     pub fn remembered(&self, word: u64, name: Name) -> Option<Seen>

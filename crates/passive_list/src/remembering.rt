@@ -96,8 +96,10 @@ pub fn recall_remembered(words: &Words, cpu: &mut PlainCpu, kind: Kind, name: Na
     recall_remembered_by(words, cpu, kind_word(kind), name)
 }
 
-/// The same by the word of a kind: an entry's row that has the word proves that it is one. If it is the word of no kind, nothing changes.
-/// Conditions: the words are the CPU's table's; the word is a kind's, or not both words of the name are 0.
+/// The same by the word of a kind: an entry's row that has the word proves that it is one. If it is
+/// the word of no kind, nothing changes.
+/// Conditions: the words are the CPU's table's; the word is a kind's, or not both words of the name
+/// are 0.
 #[inline(always)]
 #[tactic(auto, using(crate::proofs::ByMemory::recalls_none))]
 pub fn recall_remembered_by(
@@ -257,7 +259,8 @@ pub fn refind_remembered(words: &Words, cpu: &mut PlainCpu, kind: Kind, name: Na
 }
 
 /// The same by the word of a kind. If it is the word of no kind, nothing changes.
-/// Conditions: the words are the CPU's table's; inside; the word is a kind's, or not both words of the name are 0.
+/// Conditions: the words are the CPU's table's; inside; the word is a kind's, or not both words of
+/// the name are 0.
 #[inline(always)]
 #[tactic(auto, using(crate::proofs::ByMemory::refinds_none))]
 pub fn refind_remembered_by(
