@@ -458,6 +458,41 @@ static void check_acquired(struct bench *bench)
 	DONE(kupaldiz_release_local_locked(&bench->keeper, cpu, &local));
 }
 
+/*
+ * A kind and a name are judged in the header's order, although a lookup first compares their words
+ * with what its CPU remembers: where that is nothing, and where it is an entry with one of them.
+ */
+static void check_words(struct bench *bench)
+{
+	static const struct kupaldiz_name zeros;
+	static const unsigned bad[] = {0, 3, 0xffffffff};
+	static const enum kupaldiz_kind good[] = {KUPALDIZ_INTERFACE, KUPALDIZ_DRIVER};
+	struct kupaldiz_cpu *outer = &bench->cpus[OUTER], *inner = &bench->cpus[INNER];
+	const struct kupaldiz_entry before = {.number = 1, .value = 2};
+	struct kupaldiz_entry found = before;
+	for (int time = 0; time < 2; time++) {
+		for (unsigned i = 0; i < 2 * COUNT_OF(bad); i++) {
+			const enum kupaldiz_kind kind = (enum kupaldiz_kind)bad[i / 2];
+			const struct kupaldiz_name *name = i % 2 != 0 ? &wm : &zeros;
+			IS(BAD_KIND, kupaldiz_look_up(outer, kind, name, &found));
+			IS(BAD_KIND, kupaldiz_find(outer, kind, name, &found));
+			IS(BAD_KIND, kupaldiz_find(inner, kind, name, &found));
+			IS(BAD_KIND, kupaldiz_enter_find(outer, kind, name, &found));
+		}
+		for (unsigned i = 0; i < COUNT_OF(good); i++) {
+			IS(BAD_NAME, kupaldiz_look_up(outer, good[i], &zeros, &found));
+			IS(BAD_NAME, kupaldiz_find(outer, good[i], &zeros, &found));
+			IS(BAD_NAME, kupaldiz_find(inner, good[i], &zeros, &found));
+			IS(BAD_NAME, kupaldiz_enter_find(outer, good[i], &zeros, &found));
+		}
+		IS(OUTSIDE, kupaldiz_find(outer, KUPALDIZ_DRIVER, &wm, &found));
+		EXPECT(same_entry(&found, &before));
+		/* From now on both CPUs remember the driver. */
+		DONE(kupaldiz_look_up(outer, KUPALDIZ_DRIVER, &wm, NULL));
+		DONE(kupaldiz_find(inner, KUPALDIZ_DRIVER, &wm, NULL));
+	}
+}
+
 /* A section acquires what it found last, also once that is retired. A later section doesn't. */
 static void check_found(struct bench *bench)
 {
@@ -638,6 +673,7 @@ int main(void)
 	const int status = run_in_child(open_roomy, check_forgotten, said, sizeof said);
 	EXPECT(said[0] == 0 && WIFSIGNALED(status) && WTERMSIG(status) == SIGKILL);
 	open_bench(&benches[ROOMY]);
+	check_words(&benches[ROOMY]);
 	check_acquired(&benches[ROOMY]);
 	check_sought(&benches[ROOMY]);
 	check_passive(&benches[ROOMY]);

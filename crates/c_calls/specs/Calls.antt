@@ -3,7 +3,7 @@ use Rattle.std.specs.Prelude.{◌≡◌, ◌≢◌, ◌⊎◌, ◌<◌, ℕ, Opt
 use Rattle.c_calls.specs.Types.{Entry, Kind, Name, Refusal, Key}
 use Rattle.registry_values.specs.Common.{key_of_words}
 use Rattle.cpu_words.specs.Common.{key_with}
-use Rattle.passive_list.specs.Common.{OnCpu, OnPlainCpu, AnswersEnter, HasExitedOn, OnPlainKeeper, HasWalked, IsWritten}
+use Rattle.passive_list.specs.Common.{OnCpu, OnPlainCpu, Seen, AnswersEnter, HasExitedOn, OnPlainKeeper, HasWalked, IsWritten}
 use Rattle.name_registry.specs.LookingUp.{EntersAndFinds, LooksInside, LooksUp}
 use Rattle.c_handles.specs.declared.values.plain.TheConstants.{DONE, OUTSIDE, EMPTY_HANDLE, BAD_KIND, BAD_NAME, NULL, NO_ROOM}
 use Rattle.c_handles.specs.declared.values.plain.CEntry.{CEntry}
@@ -95,6 +95,25 @@ pub record TellsEntry (Does : OnCpu → OnCpu → Result Entry Refusal → Type 
   pub does : Does a.cpu b.cpu r
   pub words : b.words ≡ a.words
   pub writes : Puts entry_out r old new
+
+-- The fast path of a lookup by C's words. Tells says what is so of the key that they ask for, and
+-- the entry that was found. If they ask for none, nothing has changed.
+abbrev pub MissesFor : (Key → OnCpu → OnCpu → Option Seen → Type 0) → Result Key ℕ → OnPlainCpu → OnPlainCpu → Type 0
+MissesFor Tells (Ok key) a b = Tells key a.cpu b.cpu None × (b.words ≡ a.words)
+MissesFor Tells (Err e) a b = b ≡ a
+
+abbrev pub IsFastFor : (Key → OnCpu → OnCpu → Option Seen → Type 0) → ℕ → CName → OnPlainCpu → OnPlainCpu → Option Seen → Type 0
+IsFastFor Tells kind given a b None = MissesFor Tells (asked kind (Some given)) a b
+IsFastFor Tells kind given a b (Some s) = (key : Key) × (asked kind (Some given) ≡ Ok key) × Tells key a.cpu b.cpu (Some s) × (b.words ≡ a.words)
+
+-- the entry that was found, by C's words of its kind and its name
+abbrev pub entry_by : ℕ → CName → Seen → CEntry
+entry_by kind given s = record { number = s.number; slot = s.slot; kind = kind; name = given; value = s.value }
+
+-- the number of a find outside any section
+abbrev pub outside_or : Result Key ℕ → ℕ
+outside_or (Ok key) = OUTSIDE
+outside_or (Err e) = e
 
 abbrev pub LooksUpFor : Key → OnPlainCpu → OnPlainCpu → ℕ → Option CEntry → Option CEntry → Type 0
 LooksUpFor key a b n old new = TellsEntry (LooksUp key) a b n old new

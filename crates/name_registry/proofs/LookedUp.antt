@@ -1,13 +1,14 @@
 -- A lookup and a get by a CPU with a share of a ledger: what is told of the CPU without the share is told of it.
 use Rattle.std.proofs.Common.{◌≡◌, ◌⊎◌, ℕ, Option, Some, None, IfSome, IsTrue, Result, Ok, Err, inl, inr, refl, sym, ap, subst, ◌∙◌}
-use Rattle.name_registry.specs.Types.{Entry, Key, NotFound, Refusal, Seen}
+use Rattle.name_registry.specs.Types.{Entry, Key, Kind, Name, NotFound, Refusal, Seen}
 use Rattle.protocol.specs.Common.{entry_with}
-use Rattle.passive_list.specs.Common.{FindsInside, FindsWhatIsKept, FindsWhatStays, HasFoundAnew, HasFoundByMemory, HasFoundKept, HasRecalledByMemory, OnCpu, entry_seen}
+use Rattle.cpu_words.specs.Common.{key_with}
+use Rattle.passive_list.specs.Common.{ByWord, FindsInside, FindsWhatIsKept, FindsWhatStays, HasFoundAnew, HasFoundByMemory, HasFoundKept, HasRecalledByMemory, OnCpu, Refinds, entry_seen}
 use Rattle.passive_list.proofs.ByMemory.{anew_after, by_load, inside_after, inside_kept, inside_stays, still_outside}
 use Rattle.passive_list.proofs.Sharing.{found_by_memory, found_inside, sharing, entered}
 use Rattle.passive_ref.specs.{HasGotByMemory, IsAcquired, OnPsref, why_not_acquired}
 use Rattle.passive_ref.proofs.Gets.{got_by_memory, none_got}
-use Rattle.name_registry.specs.LookingUp.{FindsAndAcquires, Gets, GetsAnew, GetsFound, GetsInSection, HasMissed, HasNotGot, LooksByMemory, LooksInside, LooksUp, MayBegin, TriedSo, Tries, found_or, got_of, looked_up}
+use Rattle.name_registry.specs.LookingUp.{FindsAndAcquires, FindsFast, Gets, GetsAnew, GetsFound, GetsInSection, HasMissed, HasNotGot, LooksByMemory, LooksFast, LooksInside, LooksUp, MayBegin, TriedSo, Tries, found_or, got_of, looked_up}
 
 inside : (m : ℕ) (key : Key) (a b : OnCpu) (r : Result Entry Refusal) → LooksInside key a b r → LooksInside key (sharing m a) (sharing m b) r
 inside m key a b r had = record { seen = had.seen; is = had.is; finds = found_inside m key a b had.seen had.finds; stays = had.stays; kept = had.kept }
@@ -102,6 +103,12 @@ looked_by_load key a b (Some s) may had =
 pub has_missed : (key : Key) (a b : OnCpu) (o : Option Seen) → MayBegin a → HasRecalledByMemory key a b o → o ≡ None → HasMissed key a b
 has_missed key a b o may had none = inl (may, subst (HasRecalledByMemory key a b) none had)
 
+-- by the word of a kind
+pub looked_by_word : (word : ℕ) (name : Name) (a b : OnCpu) (o : Option Seen) → MayBegin a → ByWord word o (λ k s. HasRecalledByMemory (key_with k name) a b s)
+    → ByWord word o (λ k s. LooksFast (key_with k name) a b s)
+looked_by_word word name a b None may had = λ k is. inl (may, had k is)
+looked_by_word word name a b (Some s) may (k, is, had) = (k, is, looked_by_load (key_with k name) a b (Some s) may had)
+
 pub looked_anew : (key : Key) (a c b : OnCpu) (o : Option Seen) → HasMissed key a c → MayBegin c → HasFoundAnew key c b o → LooksUp key a b (found_or (entry_seen key o))
 looked_anew key a c b o (inl (may, had)) now anew =
     let f = anew_after key a c b o had anew may.0 in
@@ -119,6 +126,10 @@ looked_nested key a c b r (inr (may, same)) not looks = subst (λ (x : OnCpu). L
 pub found_by_load : (key : Key) (a b : OnCpu) (o : Option Seen) → IfSome o (λ seen. FindsInside key a b (Some seen)) → IfSome o (λ seen. LooksInside key a b (found_or (entry_seen key (Some seen))))
 found_by_load key a b None had = tt
 found_by_load key a b (Some s) had = record { seen = Some s; is = refl; finds = had; stays = inside_stays key a b (Some s) had; kept = inside_kept key a b (Some s) had }
+
+pub found_by_word : (word : ℕ) (name : Name) (a b : OnCpu) (o : Option Seen) → ByWord word o (λ k s. Refinds (key_with k name) a b s) → ByWord word o (λ k s. FindsFast (key_with k name) a b s)
+found_by_word word name a b None had = had
+found_by_word word name a b (Some s) (k, is, had) = (k, is, found_by_load (key_with k name) a b (Some s) had)
 
 pub found_after : (key : Key) (a c b : OnCpu) (o : Option Seen) → HasRecalledByMemory key a c None → HasFoundKept key c b o → LooksInside key a b (found_or (entry_seen key o))
 found_after key a c b o missed kept =

@@ -53,6 +53,16 @@ pub record LooksUp (key : Key) (a b : OnCpu) (r : Result Entry Refusal) : Type 0
 abbrev pub HasMissed : Key → OnCpu → OnCpu → Type 0
 HasMissed key a c = (MayBegin a × HasRecalledByMemory key a c None) ⊎ ((MayBegin a → ⊥) × (c ≡ a))
 
+-- what the fast path of a lookup told: the entry, or nothing
+abbrev pub LooksFast : Key → OnCpu → OnCpu → Option Seen → Type 0
+LooksFast key a b None = HasMissed key a b
+LooksFast key a b (Some s) = LooksUp key a b (found_or (entry_seen key (Some s)))
+
+-- and that of a find
+abbrev pub FindsFast : Key → OnCpu → OnCpu → Option Seen → Type 0
+FindsFast key a b None = HasRecalledByMemory key a b None
+FindsFast key a b (Some s) = LooksInside key a b (found_or (entry_seen key (Some s)))
+
 -- how an enter with a find ends: inside with the entry that it found, else by an exit
 abbrev pub EndsAsFound : Result Entry Refusal → OnCpu → OnCpu → Type 0
 EndsAsFound (Ok e) last b = b ≡ last

@@ -39,8 +39,8 @@ pub use getting_local::{get_local, get_local_or};
 pub use glancing::{begin, glance_at_all, pass_all};
 pub use law::{exact_audit, free_interlock, weights_law};
 pub use looking_up::{
-    enter_find_fast, enter_find_nested, enter_find_slow, find_fast, find_slow, get_fast, get_slow,
-    look_up_anew, look_up_fast, look_up_nested,
+    enter_find_fast, enter_find_nested, enter_find_slow, find_by, find_slow, get_fast, get_slow,
+    look_up_anew, look_up_by, look_up_nested,
 };
 pub use registry::Registry;
 pub use releasing::release_for;

@@ -4,14 +4,15 @@
 ghost use Rattle.std.specs.Prelude.{◌≡◌, ◌≢◌, ◌<◌, IfOk, IfSome, IsTrue, None, Ok, Some};
 ghost use Rattle.protocol.specs.Common.{entry_with};
 ghost use Rattle.cpu_words.specs.Common.{AreWordsOf, key_with};
-ghost use Rattle.passive_list.specs.Common.{HasRecalledByMemory, OnCpu, entry_seen, may_begin};
-ghost use Rattle.name_registry.specs.LookingUp.{EntersAndFinds, FindsAndAcquires, Gets, GetsAnew, GetsFound, GetsInSection, HasEnteredInVain, HasMissed, HasNotGot, LooksInside, LooksUp, MayBegin, found_or, got_of, looked_up};
+ghost use Rattle.passive_list.specs.Common.{ByWord, HasRecalledByMemory, IsOfNoKind, IsSome, OnCpu, entry_seen, may_begin};
+ghost use Rattle.name_registry.specs.LookingUp.{EntersAndFinds, FindsAndAcquires, FindsFast, Gets, GetsAnew, GetsFound, GetsInSection, HasEnteredInVain, HasMissed, HasNotGot, LooksFast, LooksInside, LooksUp, MayBegin, found_or, got_of, looked_up};
 
 use crate::registry::Registry;
 use cpu_words::{Domain, Words};
 use passive_list::{
     Cpu, PlainCpu, Seen, enter_on, exit_on, find_and_remember, find_anew, find_by_memory,
-    find_inside_on, may_begin_on, recall_remembered, refind_remembered,
+    find_inside_on, may_begin_on, recall_remembered, recall_remembered_by, refind_remembered,
+    refind_remembered_by,
 };
 use passive_ref::{Psref, acquire_on, get_by_memory};
 use registry_values::{Entry, Key, Kind, MOST_SLOTS, Name, Record, Refusal};
@@ -66,7 +67,7 @@ fn look_up_in(words: &Words, cpu: &mut PlainCpu, key: Key) -> Result<Option<Seen
 /// The fast path of `look_up_in`: from outside, the entry that the CPU remembers, if one load says that it is live. Its words stay in registers,
 /// since there is no refusal beside them. `None` says nothing: `look_up_slow` follows. Condition: the words are its table's.
 #[inline(always)]
-pub fn look_up_fast(words: &Words, cpu: &mut PlainCpu, key: Key) -> Option<Seen>
+fn look_up_fast(words: &Words, cpu: &mut PlainCpu, key: Key) -> Option<Seen>
     requires words { AreWordsOf words.now cpu.old.words.table cpu.old.words.settings }
     ensures looks { IfSome result (λ seen. LooksUp key cpu.old.cpu cpu.new.cpu (found_or (entry_seen key (Some seen)))) }
     ensures missed { result ≡ None → HasMissed key cpu.old.cpu cpu.new.cpu }
@@ -75,6 +76,25 @@ pub fn look_up_fast(words: &Words, cpu: &mut PlainCpu, key: Key) -> Option<Seen>
 {
     if may_begin_on(words, cpu) {
         return recall_remembered(words, cpu, key.kind, key.name);
+    }
+    None
+}
+
+/// `look_up_fast` by the word of a kind. If it is the word of no kind, nothing changes.
+/// Conditions: the words are the CPU's table's; the word is a kind's, or not both words of the name
+/// are 0.
+#[inline(always)]
+#[tactic(auto, using(crate::proofs::LookedUp::looked_by_word))]
+pub fn look_up_by(words: &Words, cpu: &mut PlainCpu, word: u64, name: Name) -> Option<Seen>
+    requires words { AreWordsOf words.now cpu.old.words.table cpu.old.words.settings }
+    requires some { IsSome word name }
+    ensures looks { ByWord word result (λ kind seen. LooksFast (key_with kind name) cpu.old.cpu cpu.new.cpu seen) }
+    ensures no_kind { IsOfNoKind word → cpu.new ≡ cpu.old }
+    ensures slot { IfSome result (λ seen. seen.slot < MOST_SLOTS) }
+    ensures words { cpu.new.words ≡ cpu.old.words }
+{
+    if may_begin_on(words, cpu) {
+        return recall_remembered_by(words, cpu, word, name);
     }
     None
 }
@@ -142,7 +162,7 @@ fn find_in(words: &Words, cpu: &mut PlainCpu, key: Key) -> Option<Seen>
 /// Conditions: the words are the CPU's table's; inside.
 #[inline(always)]
 #[tactic(auto, using(crate::proofs::LookedUp::found_by_load))]
-pub fn find_fast(words: &Words, cpu: &mut PlainCpu, key: Key) -> Option<Seen>
+fn find_fast(words: &Words, cpu: &mut PlainCpu, key: Key) -> Option<Seen>
     requires words { AreWordsOf words.now cpu.old.words.table cpu.old.words.settings }
     requires inside { cpu.old.cpu.view.begin ≢ None }
     ensures looks { IfSome result (λ seen. LooksInside key cpu.old.cpu cpu.new.cpu (found_or (entry_seen key (Some seen)))) }
@@ -151,6 +171,23 @@ pub fn find_fast(words: &Words, cpu: &mut PlainCpu, key: Key) -> Option<Seen>
     ensures words { cpu.new.words ≡ cpu.old.words }
 {
     refind_remembered(words, cpu, key.kind, key.name)
+}
+
+/// `find_fast` by the word of a kind. If it is the word of no kind, nothing changes.
+/// Conditions: the words are the CPU's table's; inside; the word is a kind's, or not both words of
+/// the name are 0.
+#[inline(always)]
+#[tactic(auto, using(crate::proofs::LookedUp::found_by_word))]
+pub fn find_by(words: &Words, cpu: &mut PlainCpu, word: u64, name: Name) -> Option<Seen>
+    requires words { AreWordsOf words.now cpu.old.words.table cpu.old.words.settings }
+    requires inside { cpu.old.cpu.view.begin ≢ None }
+    requires some { IsSome word name }
+    ensures looks { ByWord word result (λ kind seen. FindsFast (key_with kind name) cpu.old.cpu cpu.new.cpu seen) }
+    ensures no_kind { IsOfNoKind word → cpu.new ≡ cpu.old }
+    ensures slot { IfSome result (λ seen. seen.slot < MOST_SLOTS) }
+    ensures words { cpu.new.words ≡ cpu.old.words }
+{
+    refind_remembered_by(words, cpu, word, name)
 }
 
 /// What `find_in` does after `find_fast` returned `None`. `a` is the CPU before that. Conditions: the words are the CPU's table's; inside.

@@ -4,17 +4,18 @@ use Rattle.std.proofs.lemmas.Bool.{eq-eqb, ne_eqb, cases_lt, eqb-true, false≢t
 use Rattle.std.proofs.lemmas.List.{append-nil}
 use Rattle.std.specs.Prelude.{is_some}
 use mathlib.Core.List.{IsPrefix}
-use Rattle.passive_list.specs.Types.{Entry, Event, Key, MOST_SLOTS, Recall, RecallHead, Refind, Settings, Word, CpuView, LogItem, Change}
-use Rattle.registry_values.specs.Common.{are_fit, key_of}
+use Rattle.passive_list.specs.Types.{Entry, Event, Key, Kind, MOST_SLOTS, Name, Recall, RecallHead, Refind, Settings, Word, CpuView, LogItem, Change}
+use Rattle.registry_values.specs.Common.{are_fit, key_of, kind_word}
 use Rattle.registry_values.proofs.Fit.{ranges}
 use Rattle.protocol.specs.Common.{IsAttached, entry_with, EndsAt, IsLegal, IsLiveAt, IsLookup, brought_by}
 use Rattle.protocol.specs.History.{change_at, rank_at}
 use Rattle.protocol.proofs.History.{IsGone, Stood, live_down, one_live, attached_within, rank_low, stands_on, stood}
-use Rattle.cpu_words.specs.Common.{did, event_by, HasRecalled, HasRecalledHead, HasRefound, HasWholePass, MayRefind, Named}
+use Rattle.cpu_words.specs.Common.{did, event_by, HasRecalled, HasRecalledHead, HasRefound, HasWholePass, MayRefind, Named, key_with}
 use Rattle.cpu_words.proofs.shown.Seeing.{attached_prefix}
-use Rattle.passive_list.specs.Common.{HasRecalledHeadOn, HasRecalledOn, HasRefoundAs, HasSeen, OnCpu, OnPlainCpu, Seen, Memory, Missed, HasFound, HasFoundFromOutside, HasFoundKept, FindsInside, Recalls, HasNumbered, HasRefoundOn, WasAbsent, entry_seen, may_begin, IsMiss, IsTrueMiss, Misses, miss_of, with_miss, FindsAndRemembers, FindsWhatIsKept, FindsWhatStays, HasFoundAnew, HasFoundInSection, HasFoundByMemory, HasRecalledAs, HasRecalledByMemory, RecallsBy, IsAbsentAt, FindsAfterHead, RecallsSeen, RefindsSeen, RemembersAnswer}
+use Rattle.passive_list.specs.Common.{ByWord, HasRecalledHeadOn, HasRecalledInVain, IsSome, RecallsWords, Remembers, RemembersSo, HasRecalledOn, HasRefoundAs, HasSeen, OnCpu, OnPlainCpu, Seen, Memory, Missed, HasFound, HasFoundFromOutside, HasFoundKept, FindsInside, Recalls, HasNumbered, HasRefoundOn, WasAbsent, entry_seen, may_begin, IsMiss, IsTrueMiss, Misses, miss_of, with_miss, FindsAndRemembers, FindsWhatIsKept, FindsWhatStays, HasFoundAnew, HasFoundInSection, HasFoundByMemory, HasRecalledAs, HasRecalledByMemory, RecallsBy, IsAbsentAt, FindsAfterHead, RecallsSeen, Refinds, RefindsSeen, RemembersAnswer}
 use Rattle.passive_list.specs.declared.memory.Miss.{Miss}
-use Rattle.passive_list.proofs.Memories.{numbered_longer}
+use Rattle.passive_list.proofs.GoingOver.{one_kind}
+use Rattle.passive_list.proofs.Memories.{entry_by_word, numbered_longer}
 use Rattle.passive_list.proofs.Walking.{ends_later, live_before, live_longer, prefix_length, prefix_trans}
 
 -- A recall, of an entry or of the head, and an entry found again, by the CPU that names its own table.
@@ -299,6 +300,56 @@ anew_kept key h a b answer had outside longer =
 -- what the CPU remembers is live, by the load
 pub recalled_live : (key : Key) (o : OnPlainCpu) (b : OnCpu) (s : Seen) → HasSeen o key s → Recalls o.cpu.memory key (Some s) → HasRecalledOn s.slot s.number o.cpu b true → HasRecalledByMemory key o.cpu b (Some s)
 recalled_live key o b s had at recalled = (Some s, at, inl (refl, recalls_seen o key s b true had recalled))
+
+-- By the word of a kind
+
+-- what the CPU remembers of it
+pub remembers_by : (o : OnPlainCpu) (word : ℕ) (name : Name) (found : Option Seen) → Remembers o.words.settings.slots o.cpu.view.pass o.cpu.memory → o.words.settings.slots ≤ MOST_SLOTS → IsSome word name
+    → RecallsWords o.cpu.memory word name found → ByWord word found (RemembersSo o name)
+remembers_by o word name None had most some recalls = λ k is. (subst (λ (w : ℕ). RecallsWords o.cpu.memory w name None) is recalls, tt)
+remembers_by o word name (Some s) had most some recalls =
+    let e = entry_by_word o.words.settings.slots o.cpu.view.pass o.cpu.memory word name s had some recalls in
+    (e.0, e.1, (subst (λ (w : ℕ). RecallsWords o.cpu.memory w name (Some s)) e.1 recalls, record { few = omega (arith, e.2, most); slots = e.2; attached = e.3 }))
+
+-- nothing is remembered
+pub recalls_none : (word : ℕ) (name : Name) (o : OnPlainCpu) → ByWord word None (RemembersSo o name) → ByWord word None (λ k s. HasRecalledByMemory (key_with k name) o.cpu o.cpu s)
+recalls_none word name o had kind is = (None, (had kind is).0, (refl, refl))
+
+-- what is remembered is live, by the load, or it isn't
+pub recalled_by : (word : ℕ) (name : Name) (o : OnPlainCpu) (b : OnCpu) (s : Seen) → ByWord word (Some s) (RemembersSo o name) → HasRecalledOn s.slot s.number o.cpu b true
+    → ByWord word (Some s) (λ k r. HasRecalledByMemory (key_with k name) o.cpu b r)
+recalled_by word name o b s (k, is, (at, seen)) live = (k, is, recalled_live (key_with k name) o b s seen at live)
+
+pub recalled_vainly : (word : ℕ) (name : Name) (a b : OnCpu) (s : Seen) (kind : Kind) → word ≡ kind_word kind → Recalls a.memory (key_with kind name) (Some s) → HasRecalledInVain s a b
+    → ByWord word None (λ k r. HasRecalledByMemory (key_with k name) a b r)
+recalled_vainly word name a b s kind is at vain other same =
+    (Some s, subst (λ (k : Kind). Recalls a.memory (key_with k name) (Some s)) (one_kind kind other (sym is ∙ same)) at, inr (refl, vain))
+
+pub not_recalled_by : (word : ℕ) (name : Name) (o : OnPlainCpu) (b : OnCpu) (s : Seen) → ByWord word (Some s) (RemembersSo o name) → HasRecalledOn s.slot s.number o.cpu b false
+    → ByWord word None (λ k r. HasRecalledByMemory (key_with k name) o.cpu b r)
+not_recalled_by word name o b s (k, is, (at, seen)) recalled = recalled_vainly word name o.cpu b s k is at (recalls_seen o (key_with k name) s b false seen recalled)
+
+-- and in the open section
+pub refinds_none : (word : ℕ) (name : Name) (o : OnPlainCpu) → ByWord word None (RemembersSo o name) → ByWord word None (λ k s. Refinds (key_with k name) o.cpu o.cpu s)
+refinds_none word name o had kind is = (None, (had kind is).0, (refl, refl))
+
+-- the kind of the word
+pub seen_by_word : (word : ℕ) (name : Name) (o : OnPlainCpu) (s : Seen) (kind : Kind) → ((k : Kind) → word ≡ kind_word k → kind ≡ k) → ByWord word (Some s) (RemembersSo o name)
+    → (word ≡ kind_word kind) × Recalls o.cpu.memory (key_with kind name) (Some s) × HasSeen o (key_with kind name) s
+seen_by_word word name o s kind of (k, is, (at, seen)) =
+    subst (λ (c : Kind). (word ≡ kind_word c) × Recalls o.cpu.memory (key_with c name) (Some s) × HasSeen o (key_with c name) s) (sym (of k is)) (is, at, seen)
+
+pub refound_by : (word : ℕ) (name : Name) (o : OnPlainCpu) (b : OnCpu) (s : Seen) (kind : Kind) → ((k : Kind) → word ≡ kind_word k → kind ≡ k) → ByWord word (Some s) (RemembersSo o name)
+    → HasRefoundAs (key_with kind name) o.cpu b (entry_with (key_with kind name) s.slot s.number s.value) → ByWord word (Some s) (λ k r. Refinds (key_with k name) o.cpu b r)
+refound_by word name o b s kind of had found = let e = seen_by_word word name o s kind of had in (kind, e.0, (Some s, e.1, inl (refl, found)))
+
+pub not_refound_by : (word : ℕ) (name : Name) (o : OnPlainCpu) (b : OnCpu) (s : Seen) (kind : Kind) → ((k : Kind) → word ≡ kind_word k → kind ≡ k) → ByWord word (Some s) (RemembersSo o name)
+    → HasRecalledInVain s o.cpu b → ByWord word None (λ k r. Refinds (key_with k name) o.cpu b r)
+not_refound_by word name o b s kind of had vain = let e = seen_by_word word name o s kind of had in recalled_vainly word name o.cpu b s kind e.0 e.1 vain
+
+pub refinds_some : (key : Key) (a b : OnCpu) (o : Option Seen) → Refinds key a b o → IfSome o (λ s. FindsInside key a b (Some s)) × (o ≡ None → HasRecalledByMemory key a b None)
+refinds_some key a b None had = (tt, λ none. had)
+refinds_some key a b (Some s) had = (had, λ none. let clash : ◌≡◌ {A = Option Seen} (Some s) None = none in cc)
 
 -- A lookup by memory
 

@@ -14,10 +14,10 @@ pub use Rattle.passive_list.specs.Publishing.{link_to, newer_of, older_of, place
 pub use Rattle.passive_list.specs.Publishing.{keeper_after_stores, with_counts, with_row, AreFresh, AreSnapshots, AreWritten, HasDetached, LogsDetach, LogsSnapshots, with_snapshots}
 pub use Rattle.passive_list.specs.Lookups.{HasFound, HasFoundFromOutside, GoesOnByLoads, GoesOnBySoMany, HasGoneOverBy, HasSearchedFor, HasWalkedBy, IsLoad, IsWalkLoad, SearchesOnce, nobody}
 pub use Rattle.passive_list.specs.Lookups.{HasLookedUp, HasMissed, HasTaken, HasVisited, HasVisitedFrom, IsAtLink, IsOn, IsUnderWay, after_visit, cpu_with_search_at, entry_seen, search_at}
-pub use Rattle.passive_list.specs.Memories.{HasCleared, HasForgotten, HasNumbered, IsMiss, IsOfRow, IsRow, IsTrueMiss, KeepsOthers, Memory, Missed, Misses, Recalls, RecallsAt, Remembers}
-pub use Rattle.passive_list.specs.Memories.{WasAbsent, LeadBelow, entry_of, hint_at, hint_of, hinted, is_for, keeps, memo_at, memo_of, miss_at, miss_of, missed_as, no_hint, no_memo, no_memory, no_miss, with_miss}
+pub use Rattle.passive_list.specs.Memories.{ByWord, HasCleared, HasForgotten, HasNumbered, IsEntrys, IsMiss, IsOfNoKind, IsOfRow, IsRow, IsSome, IsTrueMiss, KeepsOthers, Memory, Missed, Misses, Recalls, RecallsAt, RecallsWords, Remembers}
+pub use Rattle.passive_list.specs.Memories.{WasAbsent, LeadBelow, hint_at, hint_of, hinted, is_for, keeps, memo_at, memo_of, memo_with, miss_at, miss_of, missed_as, no_hint, no_memo, no_memory, no_miss, no_name, with_miss}
 pub use Rattle.passive_list.specs.Memories.{with_seen}
 pub use Rattle.passive_list.specs.Remembering.{HasRecalledHeadOn, HasRecalledOn, HasRefoundAs, HasRefoundOn, FindsAfterHead, FindsAfterWord, FindsAndRemembers, FindsBy, FindsInside}
 pub use Rattle.passive_list.specs.Remembering.{FindsWhatIsKept, FindsWhatStays, HasFoundAnew, HasFoundByMemory, HasFoundInSection, HasFoundKept, HasRecalledAs, HasRecalledByMemory}
-pub use Rattle.passive_list.specs.Remembering.{HasRecalledInVain, HasSeen, IsAbsentAt, RecallsBy, RecallsSeen, RefindsSeen, RemembersAnswer}
+pub use Rattle.passive_list.specs.Remembering.{HasRecalledInVain, HasSeen, IsAbsentAt, RecallsBy, RecallsSeen, Refinds, RefindsSeen, RemembersAnswer, RemembersSo}
 pub use Rattle.passive_list.specs.Replacing.{HasReplaced, HasReplacedIn, LogsReplace, MayReplace, keeper_after_hide, keeper_after_place, keeper_after_snapshots, rows_replaced, rows_taken}

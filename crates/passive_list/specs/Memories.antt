@@ -1,8 +1,9 @@
 -- What a CPU remembers of the entries that it has found: a row for each slot, and by hint of a name the two slots where one with that hint was found last. And as many names that no entry had.
-use Rattle.std.specs.Prelude.{◌≡◌, ◌≢◌, ◌⊎◌, ℕ, ◌+◌, ◌*◌, ◌/◌, ◌%◌, ◌^◌, ◌==◌, ◌<◌, ◌≤◌, ◌&&◌, if◌then◌else◌, min, not, Bool, List, length, set, replicate, slice_index_or, Option, Some, None, IfSome}
-use Rattle.passive_list.specs.Types.{Change, Entry, Iface, Key, Name}
-use Rattle.registry_values.specs.Common.{same_key}
+use Rattle.std.specs.Prelude.{◌≡◌, ◌≢◌, ◌⊎◌, ℕ, ◌+◌, ◌*◌, ◌/◌, ◌%◌, ◌^◌, ◌==◌, ◌<◌, ◌≤◌, ◌&&◌, if◌then◌else◌, min, not, Bool, IsTrue, List, length, set, replicate, slice_index_or, Option, Some, None, IfSome}
+use Rattle.passive_list.specs.Types.{Change, Entry, Iface, Key, Kind, Name}
+use Rattle.registry_values.specs.Common.{is_key, kind_word, same_key}
 use Rattle.protocol.specs.Common.{IsAttached, IsLookup, entry_with}
+use Rattle.cpu_words.specs.Common.{key_with}
 use Rattle.passive_list.specs.declared.lookup.Seen.{Seen}
 use Rattle.passive_list.specs.declared.memory.Hint.{Hint}
 use Rattle.passive_list.specs.declared.memory.Memo.{Memo}
@@ -21,8 +22,12 @@ pub record Memory : Type 0 where
   pub hints : List Hint
   pub missed : Missed
 
+-- the name of a row of no entry, which no entry has
+abbrev pub no_name : Name
+no_name = record { high = 0; low = 0 }
+
 abbrev pub no_memo : Memo
-no_memo = record { number = 0; value = 0; kind = Iface; name = record { high = 0; low = 0 } }
+no_memo = record { number = 0; value = 0; kind = 0; name = no_name }
 
 abbrev pub no_miss : Miss
 no_miss = record { number = 0; kind = Iface; name = record { high = 0; low = 0 } }
@@ -40,12 +45,11 @@ no_memory slots = record { rows = replicate slots no_memo; hints = replicate HIN
 abbrev pub memo_at : List Memo → ℕ → Memo
 memo_at rows t = slice_index_or rows t no_memo
 
-abbrev pub memo_of : Key → Seen → Memo
-memo_of key s = record { number = s.number; value = s.value; kind = key.kind; name = key.name }
+abbrev pub memo_with : ℕ → Name → Seen → Memo
+memo_with word name s = record { number = s.number; value = s.value; kind = word; name = name }
 
--- the entry of the row m of the slot t
-abbrev pub entry_of : ℕ → Memo → Entry
-entry_of t m = entry_with (record { kind = m.kind; name = m.name }) t m.number m.value
+abbrev pub memo_of : Key → Seen → Memo
+memo_of key s = memo_with (kind_word key.kind) key.name s
 
 abbrev pub miss_at : List Miss → ℕ → Miss
 miss_at missed i = slice_index_or missed i no_miss
@@ -68,24 +72,29 @@ pub record WasAbsent (h : List Change) (key : Key) (n : ℕ) : Type 0 where
 abbrev pub IsTrueMiss : List Change → Miss → Type 0
 IsTrueMiss h m = m.number ≢ 0 → WasAbsent h (record { kind = m.kind; name = m.name }) m.number
 
+-- the row of the slot t is of an entry that was attached there by the end of h
+pub record IsEntrys (slots : ℕ) (h : List Change) (t : ℕ) (m : Memo) : Type 0 where
+  pub few : t < slots
+  pub of : Kind
+  pub word : m.kind ≡ kind_word of
+  pub attached : IsAttached h (entry_with (key_with of m.name) t m.number m.value)
+
 -- All rows are there, and all hints. Each row is of no entry, or of an entry that was attached in that slot by the end of h; each miss is true of h
 pub record Remembers (slots : ℕ) (h : List Change) (m : Memory) : Type 0 where
   pub size : length m.rows ≡ slots
   pub hints : length m.hints ≡ HINTS
-  pub each : (t : ℕ) → (memo_at m.rows t).number ≢ 0 → (t < slots) × IsAttached h (entry_of t (memo_at m.rows t))
+  pub each : (t : ℕ) → (memo_at m.rows t ≡ no_memo) ⊎ IsEntrys slots h t (memo_at m.rows t)
   pub absent : (i : ℕ) → IsTrueMiss h (miss_at m.missed.places i)
 
--- the row is of an entry with this key
-pub record IsRow (key : Key) (m : Memo) : Type 0 where
-  pub some : m.number ≢ 0
-  pub kind : m.kind ≡ key.kind
-  pub name : m.name ≡ key.name
+-- the row has a kind's word and a name
+pub record IsRow (word : ℕ) (called : Name) (m : Memo) : Type 0 where
+  pub kind : m.kind ≡ word
+  pub name : m.name ≡ called
 
--- s is what the row of its slot says, which has the key
-pub record IsOfRow (rows : List Memo) (key : Key) (s : Seen) : Type 0 where
+-- s is what the row of its slot says, which has them
+pub record IsOfRow (rows : List Memo) (word : ℕ) (name : Name) (s : Seen) : Type 0 where
   pub few : s.slot < length rows
-  pub some : s.number ≢ 0
-  pub is : memo_at rows s.slot ≡ memo_of key s
+  pub is : memo_at rows s.slot ≡ memo_with word name s
 
 -- What is remembered of a key
 
@@ -104,14 +113,31 @@ LeadBelow n hints = (i : ℕ) → ((hint_at hints i).last < n) × ((hint_at hint
 abbrev pub hinted : List Hint → Name → Hint
 hinted hints n = hint_at hints (hint_of n)
 
--- what the row of the slot t says of the key
-abbrev pub RecallsAt : List Memo → Key → ℕ → Option Seen → Type 0
-RecallsAt rows key t None = t < length rows → IsRow key (memo_at rows t) → ⊥
-RecallsAt rows key t (Some s) = (s.slot ≡ t) × IsOfRow rows key s
+-- what the row of the slot t says of a kind's word and a name
+abbrev pub RecallsAt : List Memo → ℕ → Name → ℕ → Option Seen → Type 0
+RecallsAt rows word name t None = t < length rows → IsRow word name (memo_at rows t) → ⊥
+RecallsAt rows word name t (Some s) = (s.slot ≡ t) × IsOfRow rows word name s
 
--- what the CPU remembers of the key: by the newer one of its name's hints, else by the older one
+-- what the CPU remembers of them: by the newer one of the name's hints, else by the older one
+abbrev pub RecallsWords : Memory → ℕ → Name → Option Seen → Type 0
+RecallsWords m word name found = ((s : Seen) × (found ≡ Some s) × RecallsAt m.rows word name (hinted m.hints name).last found) ⊎ (RecallsAt m.rows word name (hinted m.hints name).last None × RecallsAt m.rows word name (hinted m.hints name).older found)
+
+-- and of a key
 abbrev pub Recalls : Memory → Key → Option Seen → Type 0
-Recalls m key found = ((s : Seen) × (found ≡ Some s) × RecallsAt m.rows key (hinted m.hints key.name).last found) ⊎ (RecallsAt m.rows key (hinted m.hints key.name).last None × RecallsAt m.rows key (hinted m.hints key.name).older found)
+Recalls m key found = RecallsWords m (kind_word key.kind) key.name found
+
+-- What is found by a kind's word: of each kind with the word nothing, or of one kind, whose word it
+-- is.
+abbrev pub ByWord : ℕ → Option Seen → (Kind → Option Seen → Type 0) → Type 0
+ByWord word None P = (k : Kind) → word ≡ kind_word k → P k None
+ByWord word (Some s) P = (k : Kind) × (word ≡ kind_word k) × P k (Some s)
+
+abbrev pub IsOfNoKind : ℕ → Type 0
+IsOfNoKind word = (k : Kind) → word ≡ kind_word k → ⊥
+
+-- A row of no entry doesn't have this word and this name.
+abbrev pub IsSome : ℕ → Name → Type 0
+IsSome word name = word ≡ 0 → IsTrue (is_key name)
 
 -- s is remembered, as the newer one
 abbrev pub with_seen : Memory → Key → Seen → Memory
@@ -124,16 +150,17 @@ with_seen m key s = record m {
 abbrev pub KeepsOthers : Key → Option ℕ → Memory → Memory → Type 0
 KeepsOthers key t m n = (other : Key) (s : Seen) → hint_of other.name ≢ hint_of key.name → IfSome t (λ u. s.slot ≢ u) → Recalls m other (Some s) → Recalls n other (Some s)
 
--- The row of the slot t doesn't have the key, if it is there. Each row is as before, but for some that had the key and are of no entry now.
-pub record HasCleared (key : Key) (t : ℕ) (m n : Memory) : Type 0 where
+-- The row of the slot t doesn't have the word and the name, if it is there. Each row is as before,
+-- but for some that had them and are of no entry now.
+pub record HasCleared (word : ℕ) (name : Name) (t : ℕ) (m n : Memory) : Type 0 where
   pub is : n ≡ record m { rows = n.rows }
   pub size : length n.rows ≡ length m.rows
-  pub none : RecallsAt n.rows key t None
-  pub each : (u : ℕ) → (memo_at n.rows u ≡ memo_at m.rows u) ⊎ (IsRow key (memo_at m.rows u) × (memo_at n.rows u ≡ no_memo))
+  pub none : RecallsAt n.rows word name t None
+  pub each : (u : ℕ) → (memo_at n.rows u ≡ memo_at m.rows u) ⊎ (IsRow word name (memo_at m.rows u) × (memo_at n.rows u ≡ no_memo))
 
 -- both hints of the key's name lead to no row with the key
 abbrev pub HasForgotten : Key → Memory → Memory → Type 0
-HasForgotten key m n = (c : Memory) × HasCleared key (hinted m.hints key.name).last m c × HasCleared key (hinted m.hints key.name).older c n
+HasForgotten key m n = (c : Memory) × HasCleared (kind_word key.kind) key.name (hinted m.hints key.name).last m c × HasCleared (kind_word key.kind) key.name (hinted m.hints key.name).older c n
 
 -- What is remembered of a key that wasn't found
 

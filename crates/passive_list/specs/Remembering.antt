@@ -1,10 +1,10 @@
 -- A lookup by memory, and what an entry or the head recalled tells.
-use Rattle.std.specs.Prelude.{◌≡◌, ◌==◌, ℕ, Bool, true, false, ◌++◌, length, Some, ◌≢◌, ◌⊎◌, suc, ◌<◌, List, Option, None}
+use Rattle.std.specs.Prelude.{◌≡◌, ◌==◌, ℕ, Bool, true, false, ◌++◌, length, Some, ◌≢◌, ◌⊎◌, suc, ◌<◌, List, Option, None, IfSome}
 use mathlib.Core.List.{IsPrefix}
-use Rattle.passive_list.specs.Types.{Entry, Key, Recall, RecallHead, Refind, Word, Change, MOST_SLOTS}
+use Rattle.passive_list.specs.Types.{Entry, Key, Kind, Name, Recall, RecallHead, Refind, Word, Change, MOST_SLOTS}
 use Rattle.registry_values.specs.Common.{key_of}
 use Rattle.protocol.specs.Common.{IsLiveAt, IsLookup, IsNewestAt, entry_with, EndsAt, IsAttached, IsKept}
-use Rattle.cpu_words.specs.Common.{HasWholePass, IsLiveNumber, did}
+use Rattle.cpu_words.specs.Common.{HasWholePass, IsLiveNumber, did, key_with}
 use Rattle.passive_list.specs.declared.lookup.Seen.{Seen}
 use Rattle.passive_list.specs.Cpus.{OnCpu, OnPlainCpu}
 use Rattle.passive_list.specs.Lookups.{HasFound, HasFoundFromOutside, entry_seen}
@@ -51,6 +51,10 @@ pub record HasSeen (o : OnPlainCpu) (key : Key) (s : Seen) : Type 0 where
   pub few : s.slot < MOST_SLOTS
   pub slots : s.slot < o.words.settings.slots
   pub attached : IsAttached o.cpu.view.pass (entry_with key s.slot s.number s.value)
+
+-- what the CPU remembers of a kind and a name: nothing, or an entry that it has seen
+abbrev pub RemembersSo : OnPlainCpu → Name → Kind → Option Seen → Type 0
+RemembersSo o name kind found = Recalls o.cpu.memory (key_with kind name) found × IfSome found (λ s. HasSeen o (key_with kind name) s)
 
 -- One load of the slot's live word, and nothing else, and the pass is the whole history. The entry e is what the registry answers for the key at its end: at this load.
 pub record HasRecalledAs (key : Key) (a b : OnCpu) (e : Entry) : Type 0 where
@@ -134,6 +138,11 @@ RecallsBy (Some s) key a b answer = ((answer ≡ Some s) × HasRecalledAs key a 
 -- By one load, if the CPU remembers an entry with the key: that entry, if its slot's live word is its number.
 abbrev pub HasRecalledByMemory : Key → OnCpu → OnCpu → Option Seen → Type 0
 HasRecalledByMemory key a b answer = (kept : Option Seen) × Recalls a.memory key kept × RecallsBy kept key a b answer
+
+-- the same in the open section, where the entry is the last found one then
+abbrev pub Refinds : Key → OnCpu → OnCpu → Option Seen → Type 0
+Refinds key a b None = HasRecalledByMemory key a b None
+Refinds key a b (Some s) = FindsInside key a b (Some s)
 
 -- what a lookup does by what the CPU remembers of the key: nothing, or s
 abbrev pub FindsBy : Option Seen → Key → OnCpu → OnCpu → Option Seen → Type 0

@@ -40,7 +40,8 @@ pub use plain_cpu::{CpuRows, PlainCpu};
 pub use publishing::{publish, publish_entry};
 pub use remembering::{
     find_and_remember, find_anew, find_by_memory, find_inside_on, recall_head_on,
-    recall_remembered, recall_word, refind_on, refind_remembered, remembered,
+    recall_remembered, recall_remembered_by, recall_word, refind_on, refind_remembered,
+    refind_remembered_by, remembered,
 };
 pub use replacing::{replace, replace_entry, take_place};
 pub use retiring::retire;

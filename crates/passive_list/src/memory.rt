@@ -1,11 +1,11 @@
 //! What a CPU remembers of the entries that it has found, and of the names that it hasn't found.
 
-ghost use Rattle.std.specs.Prelude.{◌≡◌, ◌↔◌, ◌<◌, IfOk, IsTrue, length};
+ghost use Rattle.std.specs.Prelude.{◌≡◌, ◌≢◌, ◌↔◌, ◌<◌, IfOk, IsTrue, length};
 ghost use Rattle.cpu_words.specs.Common.{key_with};
-ghost use Rattle.passive_list.specs.Memories.{HasCleared, HasForgotten, IsMiss, IsRow, Recalls, RecallsAt, hint_of, is_for, keeps, miss_at, miss_of, no_hint, no_memo, no_memory, no_miss, no_misses, with_miss, with_missed, with_seen};
+ghost use Rattle.passive_list.specs.Memories.{HasCleared, HasForgotten, IsMiss, IsRow, RecallsAt, RecallsWords, hint_of, is_for, keeps, miss_at, miss_of, no_hint, no_memo, no_memory, no_miss, no_misses, with_miss, with_missed, with_seen};
 
 use crate::lookup::Seen;
-use registry_values::{Kind, MOST_SLOTS, Name};
+use registry_values::{Kind, MOST_SLOTS, Name, kind_word};
 use std::alloc::{AllocError, Global};
 use std::marker::Model;
 
@@ -27,10 +27,10 @@ const MIX: u64 = 0xc4ce_b9fe_1a85_ec53;
 /// The words of an entry that the CPU has found in a slot.
 #[derive(Clone, Copy)]
 pub struct Memo {
-    /// From 1; 0 for no entry.
     pub number: u64,
     pub value: u64,
-    pub kind: Kind,
+    /// The kind's word, as C has it; 0, which is no kind's, for no entry.
+    pub kind: u64,
     pub name: Name,
 }
 
@@ -42,7 +42,7 @@ impl Memo {
         Memo {
             number: 0,
             value: 0,
-            kind: Kind::Iface,
+            kind: 0,
             name: Name::of_words(0, 0),
         }
     }
@@ -138,29 +138,31 @@ impl Memory {
         })
     }
 
-    /// The entry that is remembered with this kind and name: at the newer one of its name's hints, else at the older one.
+    /// What is remembered with this kind's word and this name: at the newer one of its name's
+    /// hints, else at the older one. A row of no entry has the word 0, and the name of two words 0.
     #[inline(always)]
-    pub fn remembered(&self, kind: Kind, name: Name) -> Option<Seen>
-        ensures { Recalls self.now (key_with kind name) result }
+    #[tactic(auto, using(crate::proofs::Memories::by_newer, crate::proofs::Memories::by_older))]
+    pub fn remembered(&self, word: u64, name: Name) -> Option<Seen>
+        ensures { RecallsWords self.now word name result }
     {
         let hint = hint_of(name);
-        let newer = self.at(self.hints[hint].last, kind, name);
-        if newer.is_some() {
-            return newer;
+        if let Some(seen) = self.at(self.hints[hint].last, word, name) {
+            return Some(seen);
         }
         // Loaded only now: a register that is kept until then costs more.
-        self.at(self.hints[hint].older, kind, name)
+        self.at(self.hints[hint].older, word, name)
     }
 
-    /// The entry of a slot, if it has this kind and name.
+    /// What the row of a slot says, if it has this kind's word and this name.
     #[inline(always)]
-    fn at(&self, slot: u8, kind: Kind, name: Name) -> Option<Seen>
+    #[tactic(auto, using(crate::proofs::Memories::at_words))]
+    fn at(&self, slot: u8, word: u64, name: Name) -> Option<Seen>
         requires { slot < length self.now.rows }
-        ensures { RecallsAt self.now.rows (key_with kind name) slot result }
+        ensures { RecallsAt self.now.rows word name slot result }
     {
         let slot = slot as usize;
         let memo = self.rows[slot];
-        if is_row_of(memo, kind, name) {
+        if is_row_of(memo, word, name) {
             Some(Seen {
                 number: memo.number,
                 slot: slot as u64,
@@ -188,7 +190,7 @@ impl Memory {
         self.rows[slot as usize] = Memo {
             number: seen.number,
             value: seen.value,
-            kind,
+            kind: kind_word(kind),
             name,
         };
     }
@@ -198,8 +200,9 @@ impl Memory {
         ensures { HasForgotten (key_with kind name) self.old self.new }
     {
         let hint = self.hints[hint_of(name)];
-        self.clear(hint.last, kind, name);
-        self.clear(hint.older, kind, name);
+        let word = kind_word(kind);
+        self.clear(hint.last, word, name);
+        self.clear(hint.older, word, name);
     }
 
     /// The last miss of this kind and name, if it is kept. Else another one.
@@ -216,12 +219,13 @@ impl Memory {
         self.missed.put(kind, name, number);
     }
 
-    /// Clears the row of a slot, if it has this kind and name, and there is one.
-    fn clear(&mut self, slot: u8, kind: Kind, name: Name)
-        ensures { HasCleared (key_with kind name) slot self.old self.new }
+    /// Clears the row of a slot, if it has this kind's word and this name, and there is one.
+    fn clear(&mut self, slot: u8, word: u64, name: Name)
+        requires { word ≢ 0 }
+        ensures { HasCleared word name slot self.old self.new }
     {
         let slot = slot as usize;
-        if slot < self.rows.len() && is_row_of(self.rows[slot], kind, name) {
+        if slot < self.rows.len() && is_row_of(self.rows[slot], word, name) {
             self.rows[slot] = Memo::none();
         }
     }
@@ -327,9 +331,9 @@ fn hint_of(name: Name) -> usize
     (mixed / HINT_SPAN) as usize
 }
 
-/// Whether the row is of an entry with this kind and name.
-fn is_row_of(memo: Memo, kind: Kind, name: Name) -> bool
-    ensures { IsTrue result ↔ IsRow (key_with kind name) memo }
+/// Whether the row has this kind's word and this name.
+fn is_row_of(memo: Memo, word: u64, name: Name) -> bool
+    ensures { IsTrue result ↔ IsRow word name memo }
 {
-    memo.number != 0 && memo.kind == kind && memo.name == name
+    memo.kind == word && memo.name == name
 }

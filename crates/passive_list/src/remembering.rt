@@ -4,8 +4,8 @@
 
 ghost use Rattle.std.specs.Prelude.{◌≡◌, ◌≢◌, ◌<◌, ◌≤◌, None, ◌↔◌, IfSome, IsTrue, Some, true};
 ghost use Rattle.cpu_words.specs.Common.{AreWordsOf, key_with};
-ghost use Rattle.passive_list.specs.Remembering.{HasRecalledHeadOn, HasRecalledOn, HasRefoundOn, HasSeen, FindsInside, FindsWhatIsKept, FindsWhatStays, HasFoundAnew, HasFoundByMemory, HasFoundInSection, HasFoundKept, HasRecalledByMemory, RefindsSeen, RemembersAnswer};
-ghost use Rattle.passive_list.specs.Memories.{HasNumbered, IsMiss, IsTrueMiss, Recalls, WasAbsent, miss_of, with_miss};
+ghost use Rattle.passive_list.specs.Remembering.{HasRecalledHeadOn, HasRecalledOn, HasRefoundOn, HasSeen, FindsInside, FindsWhatIsKept, FindsWhatStays, HasFoundAnew, HasFoundByMemory, HasFoundInSection, HasFoundKept, HasRecalledByMemory, Refinds, RefindsSeen, RemembersAnswer, RemembersSo};
+ghost use Rattle.passive_list.specs.Memories.{ByWord, HasNumbered, IsOfNoKind, IsMiss, IsSome, IsTrueMiss, Recalls, WasAbsent, miss_of, with_miss};
 ghost use Rattle.passive_list.specs.Cpus.{may_begin};
 ghost use Rattle.passive_list.specs.Lookups.{entry_seen};
 
@@ -13,8 +13,9 @@ use crate::from_outside::find_from_outside;
 use crate::lookup::{Seen, find_seen, keep};
 use crate::memory::Miss;
 use crate::plain_cpu::PlainCpu;
+use crate::walks::kind_of;
 use cpu_words::{Words, steps};
-use registry_values::{Kind, MOST_SLOTS, Name};
+use registry_values::{Kind, MOST_SLOTS, Name, kind_word};
 
 /// The slot of the newest live entry plus 1, or 0 where no entry is live: by one load of the head. So it is at that very point of the history,
 /// where this CPU's pass is the whole of it.
@@ -92,7 +93,29 @@ pub fn recall_remembered(words: &Words, cpu: &mut PlainCpu, kind: Kind, name: Na
     ensures slot { IfSome result (λ seen. seen.slot < MOST_SLOTS) }
     ensures words { cpu.new.words ≡ cpu.old.words }
 {
-    let seen = remembered(cpu, kind, name)?;
+    recall_remembered_by(words, cpu, kind_word(kind), name)
+}
+
+/// The same by the word of a kind: an entry's row that has the word proves that it is one. If it is
+/// the word of no kind, nothing changes.
+/// Conditions: the words are the CPU's table's; the word is a kind's, or not both words of the name
+/// are 0.
+#[inline(always)]
+#[tactic(auto, using(crate::proofs::ByMemory::recalls_none))]
+pub fn recall_remembered_by(
+    words: &Words,
+    cpu: &mut PlainCpu,
+    word: u64,
+    name: Name,
+) -> Option<Seen>
+    requires words { AreWordsOf words.now cpu.old.words.table cpu.old.words.settings }
+    requires some { IsSome word name }
+    ensures found { ByWord word result (λ kind seen. HasRecalledByMemory (key_with kind name) cpu.old.cpu cpu.new.cpu seen) }
+    ensures no_kind { IsOfNoKind word → cpu.new ≡ cpu.old }
+    ensures slot { IfSome result (λ seen. seen.slot < MOST_SLOTS) }
+    ensures words { cpu.new.words ≡ cpu.old.words }
+{
+    let seen = remembered_by(cpu, word, name)?;
     let live = steps::recall(words, &mut cpu.seat, cpu.row.cpu, seen.slot as u8);
     let is_live = live == seen.number;
     if is_live {
@@ -107,7 +130,16 @@ pub fn remembered(cpu: &PlainCpu, kind: Kind, name: Name) -> Option<Seen>
     ensures recalled { Recalls cpu.now.cpu.memory (key_with kind name) result }
     ensures seen { IfSome result (λ seen. HasSeen cpu.now (key_with kind name) seen) }
 {
-    cpu.memory.remembered(kind, name)
+    remembered_by(cpu, kind_word(kind), name)
+}
+
+/// The same by the word of a kind. Condition: it is a kind's, or not both words of the name are 0.
+#[inline(always)]
+fn remembered_by(cpu: &PlainCpu, word: u64, name: Name) -> Option<Seen>
+    requires { IsSome word name }
+    ensures { ByWord word result (RemembersSo cpu.now name) }
+{
+    cpu.memory.remembered(word, name)
 }
 
 /// Looks an entry up anew: there is none, if no entry is live, or if the newest live one is that of the last miss. Else in a section.
@@ -223,8 +255,30 @@ pub fn refind_remembered(words: &Words, cpu: &mut PlainCpu, kind: Kind, name: Na
     ensures slot { IfSome result (λ seen. seen.slot < MOST_SLOTS) }
     ensures words { cpu.new.words ≡ cpu.old.words }
 {
-    let seen = remembered(cpu, kind, name)?;
-    if refind_seen(words, cpu, kind, name, seen) {
+    refind_remembered_by(words, cpu, kind_word(kind), name)
+}
+
+/// The same by the word of a kind. If it is the word of no kind, nothing changes.
+/// Conditions: the words are the CPU's table's; inside; the word is a kind's, or not both words of
+/// the name are 0.
+#[inline(always)]
+#[tactic(auto, using(crate::proofs::ByMemory::refinds_none))]
+pub fn refind_remembered_by(
+    words: &Words,
+    cpu: &mut PlainCpu,
+    word: u64,
+    name: Name,
+) -> Option<Seen>
+    requires words { AreWordsOf words.now cpu.old.words.table cpu.old.words.settings }
+    requires inside { cpu.old.cpu.view.begin ≢ None }
+    requires some { IsSome word name }
+    ensures found { ByWord word result (λ kind seen. Refinds (key_with kind name) cpu.old.cpu cpu.new.cpu seen) }
+    ensures no_kind { IsOfNoKind word → cpu.new ≡ cpu.old }
+    ensures slot { IfSome result (λ seen. seen.slot < MOST_SLOTS) }
+    ensures words { cpu.new.words ≡ cpu.old.words }
+{
+    let seen = remembered_by(cpu, word, name)?;
+    if refind_seen(words, cpu, kind_of(word), name, seen) {
         return Some(seen);
     }
     None

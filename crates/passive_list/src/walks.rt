@@ -153,7 +153,7 @@ fn go_by(words: &Words, seat: &mut CpuSeat, cpu: u8, slot: usize) -> RecordWords
 }
 
 /// The kind whose word this is.
-fn kind_of(word: u64) -> Kind
+pub(crate) fn kind_of(word: u64) -> Kind
     ensures { (kind : Kind) → word ≡ kind_word kind → result ≡ kind }
 {
     if word == 1 { Kind::Iface } else { Kind::Driver }

@@ -1,23 +1,17 @@
--- What the slow path found is written.
-use Rattle.std.proofs.Common.{Option, None, sym, ap, subst, ◌∙◌}
-use Rattle.cpu_words.specs.Common.{key_with}
-use Rattle.passive_list.specs.Common.{HasRecalledByMemory, OnPlainCpu, entry_seen}
-use Rattle.name_registry.specs.LookingUp.{found_or}
+-- What the arguments ask for is looked up. Where they ask for nothing, nothing has changed.
+use Rattle.std.proofs.Common.{Some, sym, ap, subst, ◌∙◌}
+use Rattle.passive_list.specs.Common.{OnPlainCpu}
+use Rattle.name_registry.specs.LookingUp.{FindsFast}
 use Rattle.c_handles.specs.declared.values.answer.EntryAnswer.{EntryAnswer}
-use Rattle.c_handles.specs.declared.values.plain.CEntry.{CEntry}
-use Rattle.c_handles.specs.values.Texts.{entry_out}
-use Rattle.c_calls.specs.Calls.{Puts}
+use Rattle.c_calls.proofs.Asked.{asks_bad, asks_good, missed_for, same_for}
 use Rattle.c_calls.proofs.lookups.find_rest.Goals as goal
 
-pub returns-clause-call : goal.returns-clause-call
-returns-clause-call c a same missed =
-    let key = key_with c.args.kind c.args.name in
-    let found = found_or (entry_seen key c.find_slow-seen.result) in
-    let e = c.find_slow-seen.ensures in
-    record {
-      r = found;
-      number = ap (λ (r : EntryAnswer). r.number) c.answer.ensures ∙ c.put_seen-number.ensures.number;
-      does = e.looks a.cpu (subst (λ (o : OnPlainCpu). HasRecalledByMemory key a.cpu o.cpu None) (sym c.cpu.view_is) missed);
-      words = e.words ∙ ap (λ (o : OnPlainCpu). o.words) c.cpu.view_is ∙ sym same;
-      writes = subst (λ (v : Option CEntry). Puts entry_out found c.args.found.value v) (sym (ap (λ (r : EntryAnswer). r.place.value) c.answer.ensures)) c.put_seen-number.ensures.written;
-    }
+pub returns-in-Ok-clause-call : goal.returns-in-Ok-clause-call
+returns-in-Ok-clause-call c a missed =
+    let had = missed_for FindsFast c.args.kind c.args.given c.in-Ok.key a c.args.cpu.now _ c.in-Ok.ensures.value refl missed in
+    asks_good c.args.kind (Some c.args.given) c.in-Ok.key _ _ _ _ c.in-Ok.ensures.value refl (c.find_key.ensures.call a (sym had.1) had.0)
+
+pub returns-in-Err-clause-call : goal.returns-in-Err-clause-call
+returns-in-Err-clause-call c a missed =
+    let same = same_for FindsFast c.args.kind c.args.given c.in-Err.number a c.args.cpu.now _ c.in-Err.ensures.value refl missed in
+    asks_bad c.args.kind (Some c.args.given) c.in-Err.number _ _ _ _ c.in-Err.ensures.value refl (ap (λ (r : EntryAnswer). r.number) c.answer.ensures) (same, ap (λ (r : EntryAnswer). r.place.value) c.answer.ensures)

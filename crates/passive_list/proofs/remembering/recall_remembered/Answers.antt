@@ -1,26 +1,15 @@
--- The data agree with the view again, and what the load found tells of the entry that is remembered.
-use Rattle.std.proofs.Common.{true, sym, ap}
-use Rattle.std.proofs.lemmas.Bool.{eq-eqb}
+-- The kind's word is that kind's.
+use Rattle.std.proofs.Common.{Option}
+use Rattle.passive_list.specs.Types.{Kind}
 use Rattle.cpu_words.specs.Common.{key_with}
-use Rattle.cpu_words.proofs.seats.Seating.{step_is_shown}
-use Rattle.passive_list.specs.Common.{OnPlainCpu}
-use Rattle.passive_list.proofs.Agreeing.{noted_agrees, own_agrees}
-use Rattle.passive_list.proofs.ByMemory.{recalled_live, recalled_on}
+use Rattle.passive_list.specs.Common.{HasRecalledByMemory, Seen}
+use Rattle.passive_list.proofs.Memories.{kind_is_some, of_word}
 use Rattle.passive_list.proofs.remembering.recall_remembered.Goals as goal
 
-pub invariant_of-cpu : goal.invariant_of-cpu
-invariant_of-cpu c =
-    own_agrees _ _ _ _ _ _ _ _ _ _ _ (noted_agrees _ _ _ _ _ _ _ _ _ _ _ _ _ _ c.cpu.invariant (step_is_shown c.recall-live.ensures.step.event) c.recall-live.ensures.step.table
-    c.recall-live.ensures.change.is.0 c.recall-live.ensures.change.is.1)
+pub recall_remembered_by-requires-clause-some : goal.recall_remembered_by-requires-clause-some
+recall_remembered_by-requires-clause-some c = kind_is_some c.args.kind c.kind_word.result c.args.name c.kind_word.ensures
 
-pub invariant_of-cpu-2 : goal.invariant_of-cpu-2
-invariant_of-cpu-2 c =
-    own_agrees _ _ _ _ _ _ _ _ _ _ _ (noted_agrees _ _ _ _ _ _ _ _ _ _ _ _ _ _ c.cpu.invariant (step_is_shown c.recall-live.ensures.step.event) c.recall-live.ensures.step.table
-    c.recall-live.ensures.change.is.0 c.recall-live.ensures.change.is.1)
-
-pub returns-then-is_live-clause-found : goal.returns-then-is_live-clause-found
-returns-then-is_live-clause-found c =
-    let s = c.in_ok-seen.seen in
-    recalled_live (key_with c.args.kind c.args.name) c.args.cpu.now _ s c.in_ok-seen.ensures.seen c.in_ok-seen.ensures.recalled
-    (recalled_on _ s.number _ _ _ _ _ _ _ true (ap (λ (o : OnPlainCpu). o.cpu) c.cpu.view_is) c.recall-live.ensures.change c.recall-live.ensures.whole c.cpu.invariant.id c.recall-live.ensures.step.log
-    c.recall-live.ensures.step.known_log (sym (eq-eqb c.recall-live.result s.number c.if-is_live.true)))
+pub returns-clause-found : goal.returns-clause-found
+returns-clause-found c =
+    let by = c.recall_remembered_by in
+    of_word (λ (k : Kind) (s : Option Seen). HasRecalledByMemory (key_with k c.args.name) c.args.cpu.now.cpu by.new.cpu.cpu s) c.args.kind c.kind_word.result by.result c.kind_word.ensures by.ensures.found
