@@ -1,4 +1,6 @@
 /* locks - the locks beside the three pages: what each guards, levels, conditions, and many that wait */
+#include <limits.h>
+
 #include "test.h"
 #include "things.h"
 
@@ -169,7 +171,7 @@ static void *wait_in_order(void *of)
 		EXPECT(cv_timedwait(&cv, &lock, LONG) == EWOULDBLOCK);
 		has_left = true;
 	} else {
-		EXPECT(cv_timedwait(&cv, &lock, 100000) == 0);
+		EXPECT(cv_timedwait(&cv, &lock, INT_MAX) == 0);
 		order = order * 10 + number;
 	}
 	mutex_exit(&lock);
