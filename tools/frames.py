@@ -3,10 +3,9 @@
 
   tools/frames.py ARCHIVE [LIMIT]
 
-With a LIMIT it says which exports are above it, and ends with status 1 if there are any. A frame is the deepest that its function's unwind table says; what
-the tables of the proved code say is read off the machine code (tools/unwind-tables.py). A function without a table, or whose table counts from another
-register than the stack pointer, is a fault. What the C library takes in `malloc` and its like isn't counted. A call through a pointer, and one that comes
-back to itself, is a fault; a jump through a pointer is that of a table.
+With a LIMIT it says which exports are above it, and ends with status 1 if there are any. A frame is the deepest that its function's unwind table says. A function
+without a table, or whose table counts from another register than the stack pointer, is a fault. What the C library takes in `malloc` and its like isn't counted.
+A call through a pointer, and one that comes back to itself, is a fault; a jump through a pointer is that of a table.
 """
 import collections
 import re
@@ -18,8 +17,6 @@ import tempfile
 FUNCTION = re.compile(r"^([0-9a-f]+) <(.*)>:$")
 # The unwind table of a function, and a row of one.
 TABLE, ROW = re.compile(r" FDE .* pc=([0-9a-f]+)\.\."), re.compile(r"^[0-9a-f]{16} (\w+)(?:\+(\d+))? ")
-# A function of the library's own has its path in its name.
-EXPORT = re.compile(r"^kupaldiz_\w+$")
 # What the C library does, by its own names: not counted.
 OUTSIDE = {f"{it}@plt" for it in ("malloc", "realloc", "free", "memcpy", "memmove", "memset", "memcmp")}
 # Of a processor: how its binutils are called, what a table may count from (the stack pointer, or where a frame of several pages will end), what a call takes,
@@ -30,25 +27,18 @@ AARCH64 = Processor("aarch64-linux-gnu-", ("sp", "x9"), 0, 0, re.compile(
     r"\t(?P<by>blr?|br|b\.\w+|b|cbn?z|tbn?z)\t(?:.*, )?(?:[0-9a-f]+ <(?P<to>.*?)(?:\+0x[0-9a-f]+)?>|(?P<pointer>x\d+))(?:\s+//.*)?$"), ("bl", "blr"))
 
 
-class Fault(Exception):
-    pass
-
-
 def said(*words):
     return subprocess.run(words, check=True, capture_output=True, text=True).stdout
 
 
 def frames(processor, library):
     """How deep each function's table goes, by the place where the function begins; None where it doesn't say."""
-    found, place = {}, None
-    for line in said("readelf", "--debug-dump=frames-interp", library).splitlines():
-        if table := TABLE.search(line):
-            place = int(table[1], 16)
-            found[place] = processor.return_address
-        elif place in found and found[place] is not None and (row := ROW.match(line)):
-            found[place] = max(found[place], int(row[2])) if row[1] in processor.bases and row[2] else None
-        elif not line:
-            place = None
+    found = {}
+    for table in said("readelf", "--debug-dump=frames-interp", library).split("\n\n"):
+        rows = [ROW.match(line) for line in table.splitlines()]
+        depths = [int(it[2]) if it[1] in processor.bases and it[2] else None for it in filter(None, rows)]
+        if begins := TABLE.search(table):
+            found[int(begins[1], 16)] = None if None in depths else max([processor.return_address, *depths])
     return found
 
 
@@ -62,7 +52,7 @@ def read(processor, library):
         elif name and (found := processor.calls.search(line)):
             is_call = found["by"] in processor.call
             if is_call and found["pointer"]:
-                raise Fault(f"{name} calls through a pointer")
+                sys.exit(f"{name} calls through a pointer")
             if not found["pointer"] and (is_call or found["to"] != name):
                 functions[name][1].add(found["to"])
     return functions
@@ -73,35 +63,30 @@ def deepest(name, functions, processor, above=()):
     if name in OUTSIDE:
         return processor.return_address
     if name not in functions:
-        raise Fault(f"{above[-1]} calls {name}, which isn't in the archive")
+        sys.exit(f"{above[-1]} calls {name}, which isn't in the archive")
     if name in above:
-        raise Fault(f"{name} comes back to itself")
+        sys.exit(f"{name} comes back to itself")
     frame, calls = functions[name]
     if frame is None:
-        raise Fault(f"{name} has no unwind table that counts from the stack pointer")
+        sys.exit(f"{name} has no unwind table that counts from the stack pointer")
     return frame + max((deepest(it, functions, processor, (*above, name)) for it in calls), default=processor.red_zone)
 
 
-def main(archive, limit=None):
+def main(archive, limit="inf"):
     processor = AARCH64 if "AArch64" in said("readelf", "-h", archive) else X86
     with tempfile.TemporaryDirectory() as room:
         # Linked, each function has a place of its own, and each call says where it leads.
         library = f"{room}/library.so"
         said(f"{processor.prefix}ld", "-shared", "-Bsymbolic", "--whole-archive", archive, "-o", library)
         functions = read(processor, library)
-    depths = sorted(((deepest(it, functions, processor), it) for it in functions if EXPORT.match(it)), reverse=True)
+    # A function of the library's own has its path in its name.
+    depths = sorted(((deepest(it, functions, processor), it) for it in functions if re.fullmatch(r"kupaldiz_\w+", it)), reverse=True)
     if not depths:
-        raise Fault(f"{archive} has no export")
+        sys.exit(f"{archive} has no export")
     for depth, name in depths:
         print(f"{depth:6} {name}")
-    over = [name for depth, name in depths if limit and depth > int(limit)]
-    for name in over:
-        print(f"above {limit}: {name}", file=sys.stderr)
-    return int(bool(over))
+    return "\n".join(f"above {limit}: {name}" for depth, name in depths if depth > float(limit)) or 0
 
 
 if __name__ == "__main__":
-    try:
-        sys.exit(main(*sys.argv[1:]))
-    except Fault as fault:
-        sys.exit(str(fault))
+    sys.exit(main(*sys.argv[1:]))
