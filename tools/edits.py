@@ -4,11 +4,11 @@
     tools/edits.py gate                           those of the kind `gate`, and some twenty others
     tools/edits.py all | CRATE | CRATE/EDIT ..    these, of all kinds
 
-The twenty others are chosen by the hash of the tree's files, which no other date or message of the commit changes. The prover's need the libraries that
-`rt ci` has built in crates/*/out/rlib. The last line is 'N passed, M failed'.
+The twenty others are chosen by the hash of the tree's files, which no other date or message of the commit changes. The last line is 'N passed, M failed'.
 
-Most of a check's time goes into reading the crates below, so one check tries edits of several bodies of a crate, one of each function. A function is proved
-of its own body and of the contracts of what it calls, which stay. What isn't refused so is tried alone.
+The prover's need crates/*/out/rlib, as `rt ci` builds it. Most of a check's time goes into reading it and, where there is no crates/CRATE/out/incremental,
+which `rt check` keeps and `rt ci` doesn't, into the proofs of all that is called. So one check tries edits of several bodies of a crate, one of each function:
+it is proved of its own body and of the contracts of what it calls, which stay. What isn't refused so is tried alone.
 """
 import collections
 import itertools
@@ -32,7 +32,7 @@ SAMPLE = {PROVER: 17, TESTS: 3}
 STATE = re.compile(r"^fn (\S+): (.*)$", re.M)
 CALLS, UNSEARCHED = re.compile("no proof: it calls "), re.compile(r"no proof: expected answers in \S+$")
 GOAL = re.compile(r"^(?:note: |\./)?((?:src|specs|proofs)/\S+:\d+:\d+: (?!.*(?:has no field|is not in scope|has no `|was not admitted)).*(?:not proved|error).*)$", re.M)
-UNREAD = re.compile(r"^(?:\./)?(?:src|specs)/\S+: error.*|^error\[.*", re.M)
+UNREAD = re.compile(r"^(?:\./)?((?:src|specs)/\S+:\d+:\d+: error.*)", re.M)
 ENDED = re.compile(r"^(?:only|logic)=.*\Z", re.M)
 
 
@@ -63,41 +63,49 @@ def rounds(edits):
 
 
 def check(edits, kept):
-    """Checks the functions of these edits in a copy of their crate; what it says, or why an edit doesn't fit. It begins with what earlier checks kept."""
-    crate, names = edits[0].crate, sorted({it for edit in edits for it in asked_for(edit)})
+    """Checks the functions of these edits in a copy of their crate; what it says, or which edits don't fit. It begins with what earlier checks kept."""
+    crate, only = edits[0].crate, [word for name in sorted({it for edit in edits for it in asked_for(edit)}) for word in ("--only", name)]
     with tempfile.TemporaryDirectory() as room:
         home = shutil.copytree(ROOT / "crates" / crate, f"{room}/crates/{crate}", ignore=shutil.ignore_patterns("out"))
-        if misfit := next(filter(None, (apply(it, pathlib.Path(room))[1] for it in edits)), ""):
-            return misfit
-        words = [kit() / "bin/rattle", "check", *over_libraries(crate), "--jobs", "1", "--incremental", kept]
-        words += [word for it in names for word in ("--only", it)]
-        ran = subprocess.run(words, cwd=home, stdin=subprocess.DEVNULL, stdout=subprocess.PIPE, stderr=subprocess.STDOUT, text=True, errors="replace")
-        return ran.stdout.rstrip()
+        if misfits := [f"{it}: {why}" for it in edits if (why := apply(it, pathlib.Path(room))[1])]:
+            return "\n".join(misfits)
+        words = [kit() / "bin/rattle", "check", *over_libraries(crate), "--jobs", "1", "--incremental", kept, *only]
+        how = {"stdin": subprocess.DEVNULL, "stdout": subprocess.PIPE, "stderr": subprocess.STDOUT, "text": True, "errors": "replace"}
+        return subprocess.run(words, cwd=home, **how).stdout.rstrip()
+
+
+def is_in(edit, told):
+    """Whether what a check told, which begins with its place, is of the edit's own function."""
+    function, (file, line, *_) = function_of(edit), told.split(":")
+    return function is not None and str(function.path).endswith(f"/{file}") and function.first < int(line) <= function.last + 1
 
 
 def judged(edit, said, is_alone):
     """What refuses the edit, or '', and else what is wrong, by what a check said. Beside others only its own function's goals and search say that it is."""
-    names, function = asked_for(edit), function_of(edit)
+    names = asked_for(edit)
     own = {path: state for path, state in STATE.findall(said) if not names or any(f"::{path}".endswith(f"::{it}") for it in names)}
     if names and not own or not ENDED.search(said) or UNREAD.search(said):
         return "", f"NOT TRIED: {next(iter(UNREAD.findall(said)), said[-300:])}"
     failed = [state for state in own.values() if state != "proved" and not CALLS.match(state)]
     if not failed:
         return "", f"NOT REFUSED: {', '.join(own) or 'the whole crate'} still proved"
-    found = [(goal.split(":"), goal) for goal in GOAL.findall(said)]
-    found = [goal for (file, line, *_), goal in found if is_alone or str(function.path).endswith(f"/{file}") and function.first < int(line) <= function.last + 1]
+    found = [goal for goal in GOAL.findall(said) if is_alone or is_in(edit, goal)]
     found += [it for it in failed if it.startswith("no proof") and not UNSEARCHED.match(it)]
     return (found[0][:200], "") if found else ("", "NOT TRIED: it is refused only because a proof names what it took away")
 
 
 def by_prover(edits):
-    """Each of these edits of a crate with what refuses it, or what is wrong."""
+    """Each of these edits of a crate with what refuses it, or what is wrong. One that spoils its round is tried alone, and the others together once more."""
+    waiting = rounds(edits)
     with tempfile.TemporaryDirectory() as kept:
-        waiting = rounds(edits)
+        for before in {it for edit in edits if (it := ROOT / "crates" / edit.crate / "out/incremental").is_dir()}:
+            shutil.copytree(before, kept, dirs_exist_ok=True)
         while waiting:
             those = waiting.pop(0)
             said = check(those, kept)
-            for edit in those:
+            spoiling = [it for it in those if f"{it}: " in said or any(is_in(it, error) for error in UNREAD.findall(said))]
+            waiting += [rest] if spoiling and (rest := [it for it in those if it not in spoiling]) else []
+            for edit in spoiling or those:
                 refusal, fault = judged(edit, said, len(those) == 1)
                 if refusal or len(those) == 1:
                     yield edit, refusal, fault
@@ -132,25 +140,17 @@ def told(edits):
             yield fault and f"{edit}: {fault}"
 
 
-def sample():
-    """Some twenty edits that aren't the gate's, chosen by the tree."""
-    words = ["git", "-c", "safe.directory=*", "rev-parse", "HEAD^{tree}"]
-    tree = subprocess.run(words, cwd=ROOT, check=True, stdout=subprocess.PIPE, text=True).stdout
-    for kind, many in SAMPLE.items():
-        others = [it for crate in CRATES for it in edits_of(crate, kind)]
-        first = int(tree[:8], 16) % -(-len(others) // many) * many if others else 0
-        yield from others[first:first + many]
-
-
 def named(word):
-    """The edits that a word names."""
-    if word in ("all", "gate"):
-        return [it for crate in CRATES for it in edits_of(crate, *[GATE] * (word == "gate"))] + [*sample()] * (word == "gate")
+    """The edits that a word names; of `gate` also some twenty others, chosen by the tree."""
+    every = lambda *kinds: [it for crate in CRATES for it in edits_of(crate, *kinds)]
+    if word == "gate":
+        tree = subprocess.run(["git", "-c", "safe.directory=*", "rev-parse", "HEAD^{tree}"], cwd=ROOT, check=True, stdout=subprocess.PIPE, text=True).stdout
+        others = [(every(kind), many) for kind, many in SAMPLE.items()]
+        return every(GATE) + [it for those, many in others for it in those[int(tree[:8], 16) % (-(-len(those) // many) or 1) * many:][:many]]
     crate, _, name = word.partition("/")
-    return [it for it in edits_of(crate) if name in ("", it.name)] or sys.exit(f"no edit {word}")
+    return every() if word == "all" else [it for it in edits_of(crate) if name in ("", it.name)] or sys.exit(f"no edit {word}")
 
 
 if __name__ == "__main__":
-    if not sys.argv[1:] or sys.argv[1].startswith("-"):
-        sys.exit(__doc__)
-    sys.exit(counted(told([it for word in sys.argv[1:] for it in named(word)])))
+    words = sys.argv[1:]
+    sys.exit(counted(told([it for word in words for it in named(word)])) if words and not words[0].startswith("-") else __doc__)

@@ -64,11 +64,15 @@ RUNS = Case("run-tests", ["run-tests.py", "checks.py", "packages.py", "tests/cou
     *of(ALL, ("a program that is missing", "3 passed, 1 failed", "../../two", "../../three"), ("no tests", "0 passed, 1 failed", LIST, LIST.replace("LABELS some", "LABELS other")),
         ("a list that can't be read", "0 passed, 1 failed", "enable_testing()", "enable_nothing()"))])
 
-# A crate of functions which the prover takes for proved unless they are wrong. That of `caller` needs that of `two`.
+# A crate of functions which the prover takes for proved unless they are wrong. That of `caller` needs that of `two`. It takes what a check kept, if there is any.
 SOURCE = "".join(f"pub fn {it}() {{\n    right {it};\n}}\n" for it in ("one", "two", "three", "caller"))
 RATTLE = r"""#!/bin/sh
-status=0
-for name in $(echo "$*" | grep -o '[-]-only [a-z]*' | cut -d' ' -f2); do
+said() { echo "$*" | grep -o "[-]-$word [^ ]*" | cut -d' ' -f2; }
+status=0 names=$(word=only said "$@") kept=$(word=incremental said "$@")
+echo checked: $names >>"$TOP/checks"
+[ ! -d "$TOP/$KEPT" ] || [ "$(cat "$kept/module")" = kept ] || exit 1
+if at=$(grep -n unknown src/lib.rt); then echo "src/lib.rt:${at%%:*}:5: error[unknown-name]: what?"; exit 1; fi
+for name in $names; do
     state=proved
     grep -q "wrong $name;" src/lib.rt && [ "$(cat "$LOW")" = low ] && state="no proof: \`search\` did not prove it" status=1
     [ $name = caller ] && grep -q "wrong two;" src/lib.rt && [ "$state" = proved ] && state="no proof: it calls \`two\`, which is not proved" status=1
@@ -83,16 +87,16 @@ case $1 in
     try) echo "tests: 1"; grep -q "right three" src/lib.rt || { echo "test t::three FAILED"; exit 1; } ;;
 esac
 """
-LOW = "crates/low/out/rlib/low.rlib/format"
+LOW, KEPT = "crates/low/out/rlib/low.rlib/format", "crates/crate/out/incremental"
 EDITS = "crates/crate/wrong.edits"
 ENTRIES = "".join(f"{kind} wrong_{it} in {file}: It is wrong.\n    right {it}; ==> wrong {it};\n" for kind, it, file in (
     ("gate", "one", "src/lib.rt"), ("gate", "two", "src/lib.rt"), ("prover", "caller", "src/lib.rt"), ("tests", "three", "crates/crate/src/lib.rt")))
 # Of as many others as three gates try, each is tried by one of three trees whose hashes follow one another.
 MANY = "".join(f"prover more_{it} in src/lib.rt: It is wrong.\n    right caller; ==> wrong caller; // {it}\n" for it in range(50))
-SETS = f"export PATH=$PWD/bin:$PATH TOP=$PWD LOW=$PWD/{LOW}\n"
+SETS = f"export PATH=$PWD/bin:$PATH TOP=$PWD LOW=$PWD/{LOW} KEPT={KEPT}\n"
 TREE = {
     "crates.txt": "low: std\ncrate: low std\n", "crates/crate/src/lib.rt": SOURCE, EDITS: ENTRIES, LOW: "low\n", "bin/rt": RT, "kit/KIT-ID": "kit\n",
-    "kit/bin/rattle": RATTLE, "bin/git": '#!/bin/sh\necho "${HASH:-00000000}"\n', "try": f"#!/bin/sh\n{SETS}exec tools/edits.py \"$@\"\n",
+    "kit/bin/rattle": RATTLE, "bin/git": '#!/bin/sh\necho "${HASH:-00000000}"\n', "try": f"#!/bin/sh\n{SETS}tools/edits.py \"$@\"; status=$?; cat checks; exit $status\n",
     "gates": "#!/bin/sh\nfor it in 0 1 2; do\n    HASH=0000000$it ./try gate || exit 1\ndone\n",
 }
 TRY = ["./try", "crate"]
@@ -103,7 +107,9 @@ SAMPLER = Case("edits", ["edits.py", "wrong.py", "contracts.py", "kit.py", "chec
     *of(EDITS, ("a wrong body that is proved", "wrong_one: NOT REFUSED", ONE, "right one; ==> right one; // still"),
         ("one that is proved beside a wrong one that it calls", "wrong_caller: NOT REFUSED", "==> wrong caller;", "==> right caller; // still"),
         ("a wrong body that no test refuses", "NOT REFUSED: all tests pass", "==> wrong three;", "==> right three; // still"),
-        ("an edit that doesn't fit", "stands 0 times in", ONE, "gone ==> wrong one;"), ("an edit that changes nothing", "it changes nothing", ONE, "right one; ==> right one;"),
+        ("an edit that doesn't fit", "stands 0 times in", ONE, "gone ==> wrong one;"), ("others beside one that fits twice", "checked: caller two\n", ONE, "right ==> wrong"),
+        ("one that can't be compiled", "wrong_one: NOT TRIED: src/lib.rt:2:5: error", ONE, "right one; ==> unknown one;"),
+        ("others beside that", "checked: caller two\n", ONE, "right one; ==> unknown one;"), ("an edit that changes nothing", "it changes nothing", ONE, "right one; ==> right one;"),
         ("an edit without its name", "neither a line KIND NAME in FILE: REASON", "gate wrong_one in", "gate in")),
     *of("kit/bin/rattle", ("code that the prover can't read", "NOT TRIED: src/lib.rt:1:1: error", "echo only=1", "echo src/lib.rt:1:1: error: what?; echo only=1"),
         ("a check that is killed", "NOT TRIED", "echo only=1", "kill -KILL $$"),
@@ -111,6 +117,7 @@ SAMPLER = Case("edits", ["edits.py", "wrong.py", "contracts.py", "kit.py", "chec
         ("a proof that can't be read", "only because a proof names", 'state="no proof: \\`search\\` did not prove it"', 'state="no proof: expected answers in ./proofs/one"')),
     *of("bin/rt", ("tests that are cut off", "NOT TRIED", "test t::three FAILED", "cut off")),
     Fault("no edits", "0 passed, 1 failed", ((EDITS, ENTRIES, ""),), ["./try", "gate"])])
+BEGUN = Case("edits over what a check kept", SAMPLER.tools, {**TREE, f"{KEPT}/module": "kept\n"}, TRY, of(f"{KEPT}/module", ("another's", "NOT TRIED", "kept", "spoilt")))
 SAMPLES = Case("samples of edits", SAMPLER.tools, {**TREE, EDITS: MANY}, ["./gates"], [
     *of(EDITS, *((f"other {it}, proved", f"more_{it}: NOT REFUSED", f"==> wrong caller; // {it}\n", f"==> right caller; // {it}\n") for it in (0, 20, 49)))])
 
@@ -131,7 +138,7 @@ DRIVEN = Case("conformance test", TOOLS, KIT, ["sh", "-c", f"sed -i '{FEW}' tool
     *of("driver", ("a driver that is wrong", "FAILED  ./driver prints each report", "exec tools/other_registry.py", "tools/other_registry.py newest-slot"),
         ("one that ends with another status", "FAILED  ./driver prints each report", "exec tools/other_registry.py <\"$path\"", "tools/other_registry.py <\"$path\"; exit 1")),
     *of("tools/conformance.py", ("a rule that leaves out all scripts", "FAILED  ./driver runs most scripts", "if driver and (driver.ended or", "if True or (driver.ended or"))])
-CASES = (GATE, RUNS, SAMPLER, SAMPLES, CONFORMANCE, DRIVEN)
+CASES = (GATE, RUNS, SAMPLER, BEGUN, SAMPLES, CONFORMANCE, DRIVEN)
 
 
 def write(tree, path, text):
