@@ -19,12 +19,13 @@ import time
 from concurrent.futures import ThreadPoolExecutor
 
 from checks import GIGABYTE, LAST_LINE, ROOT, ended, free_memory
-from kit import below
-from library import LIBRARY, PROCESSORS, building
+from kit import below, kit, over_libraries
 from limits import LIMITS
 
+LIBRARY = "registry_c"
 OUT = ROOT / "out"
-# The first processor's archive is built here.
+# The processors that the library is proved for, and what names each to `rattle`. The first one's archive is built here.
+PROCESSORS = {"x86_64": (), "aarch64": ("--target", "aarch64-unknown-linux-gnu")}
 FIRST, *OTHERS = PROCESSORS
 # What a proof of the archive keeps for the next one in this copy of the repository.
 KEPT = OUT / "proof"
@@ -37,9 +38,11 @@ def build(processor, room, began):
     """Proves and compiles the library once there is memory for it; whether it did."""
     while free_memory() < NEEDS:
         time.sleep(1)
-    (room / processor).mkdir()
-    words = ["nice", "-n", "10", *building(processor, room / processor / f"lib{LIBRARY}.a", room, KEPT, room)]
-    with open(room / processor / "proof.log", "wb", buffering=0) as said:
+    log, made = room / f"{processor}.log", room / processor / f"lib{LIBRARY}.a"
+    made.parent.mkdir()
+    words = ["nice", "-n", "10", kit() / "bin/rattle", "build", *over_libraries(LIBRARY, room), "--jobs", "1", *PROCESSORS[processor]]
+    words += ["--incremental", KEPT, "--toolchain", kit() / "toolchain", "--backend", "llvm", "-o", made]
+    with open(log, "wb", buffering=0) as said:
         said.write(began)
         ran = subprocess.Popen(words, cwd=room / LIBRARY, stdin=subprocess.DEVNULL, stdout=said, stderr=said)
         # Where memory runs out, this is what ends, and no check of rt ci.
@@ -71,8 +74,10 @@ def follow(command, may_prove):
 def archive(proved, room):
     """Whether the archive stands, made of what was proved beside, or proved now. Libraries for other processors are left where they are looked for."""
     for processor in set(OTHERS) & set(proved):
-        shutil.copytree(room / processor, OUT / processor, dirs_exist_ok=True)
-    made = [room / FIRST / f"lib{LIBRARY}.a", room / FIRST / "proof.log"] if FIRST in proved else []
+        (OUT / processor).mkdir(parents=True, exist_ok=True)
+        shutil.copy2(room / f"{processor}.log", OUT / processor / "proof.log")
+        shutil.copy2(room / processor / f"lib{LIBRARY}.a", OUT / processor)
+    made = [room / FIRST / f"lib{LIBRARY}.a", room / f"{FIRST}.log"] if FIRST in proved else []
     return subprocess.run(["tools/build-archive.sh", *made], cwd=ROOT).returncode == 0
 
 
