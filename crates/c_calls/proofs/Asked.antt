@@ -5,7 +5,8 @@ use Rattle.std.specs.Prelude.{Result, Ok, Err}
 use Rattle.c_calls.specs.Types.{Key, Kind, Driver, Iface, Name}
 use Rattle.registry_values.specs.Common.{key_of_words, kind_word}
 use Rattle.cpu_words.specs.Common.{key_with}
-use Rattle.passive_list.specs.Common.{ByWord, IsOfNoKind, OnCpu, OnPlainCpu, Seen}
+use Rattle.passive_list.specs.declared.lookup.Seen.{Seen}
+use Rattle.passive_list.specs.Common.{ByWord, IsOfNoKind, OnCpu, OnPlainCpu}
 use Rattle.c_handles.specs.declared.values.answer.EntryAnswer.{EntryAnswer}
 use Rattle.c_handles.specs.declared.values.answer.NamedAnswer.{NamedAnswer}
 use Rattle.c_handles.specs.declared.values.given.GivenName.{GivenName}
@@ -30,13 +31,13 @@ kind_none word none k is = let clash : ◌≡◌ {A = Option Kind} (Some k) None
 kind_some : (word : ℕ) (k : Kind) → kind_in word ≡ Some k → word ≡ kind_word k
 kind_some word k is = by (word == 1) (word == 2) refl refl is
   where
+    some_kind : {c : Kind} → ◌≡◌ {A = Option Kind} (Some c) (Some k) → c ≡ k
+    some_kind had = cc
+
     by : (b c : Bool) → word == 1 ≡ b → word == 2 ≡ c → (if b then Some Iface else (if c then Some Driver else None)) ≡ Some k → word ≡ kind_word k
     by true c one two had = eqb-true word 1 one ∙ ap kind_word (some_kind had)
     by false true one two had = eqb-true word 2 two ∙ ap kind_word (some_kind had)
     by false false one two had = let clash : ◌≡◌ {A = Option Kind} None (Some k) = had in cc
-
-    some_kind : {c : Kind} → ◌≡◌ {A = Option Kind} (Some c) (Some k) → c ≡ k
-    some_kind had = cc
 
 -- they ask for that key
 pub asks_good : (kind : ℕ) (name : Option CName) (key : Key) (n : ℕ) (Same : Type 0) (P : Key → Type 0) (r : Result Key ℕ) → r ≡ asked kind name → r ≡ Ok key → P key → Asks kind name n Same P

@@ -3,7 +3,8 @@ use Rattle.std.specs.Prelude.{◌≡◌, ◌≢◌, ◌⊎◌, ◌<◌, ℕ, Opt
 use Rattle.c_calls.specs.Types.{Entry, Kind, Name, Refusal, Key}
 use Rattle.registry_values.specs.Common.{key_of_words}
 use Rattle.cpu_words.specs.Common.{key_with}
-use Rattle.passive_list.specs.Common.{OnCpu, OnPlainCpu, Seen, AnswersEnter, HasExitedOn, OnPlainKeeper, HasWalked, IsWritten}
+use Rattle.passive_list.specs.declared.lookup.Seen.{Seen}
+use Rattle.passive_list.specs.Common.{OnCpu, OnPlainCpu, AnswersEnter, HasExitedOn, OnPlainKeeper, HasWalked, IsWritten}
 use Rattle.name_registry.specs.LookingUp.{EntersAndFinds, LooksInside, LooksUp}
 use Rattle.c_handles.specs.declared.values.plain.TheConstants.{DONE, OUTSIDE, EMPTY_HANDLE, BAD_KIND, BAD_NAME, NULL, NO_ROOM}
 use Rattle.c_handles.specs.declared.values.plain.CEntry.{CEntry}

@@ -7,5 +7,5 @@ use Rattle.c_calls.proofs.lookups.find.Goals as goal
 pub returns-clause-call : goal.returns-clause-call
 returns-clause-call c =
     let call = c.find_given in
-    tells_given c.args.cpu.now.body c.in-Some.body.now call.new.cpu c.args.kind c.args.name.name c.in-Some-given.given c.args.found.value call.result _ c.with_name-3.result FindsFor c.in-Some.ensures.value
-    (sym c.in-Some-given.is ∙ c.name.ensures.1) c.with_name-3.ensures call.ensures.call
+    tells_given c.args.cpu.now.body c.in-Some.body.now call.new.cpu c.args.kind c.args.name.name c.in-Some-name.given c.args.found.value call.result _ c.with_name-2.result FindsFor c.in-Some.ensures.value
+    (sym c.in-Some-name.is ∙ c.name.ensures.1) c.with_name-2.ensures call.ensures.call

@@ -14,7 +14,7 @@ returns-then-not-inside-clause-call c =
     let a = c.args.cpu.now in
     let not : a.cpu.view.begin ≢ None → ⊥ =
     λ some. false≢true (sym c.if-not-inside.true ∙ c.inside.ensures.1 (subst (λ (o : OnPlainCpu). o.cpu.view.begin ≢ None) (sym c.cpu.view_is) some)) in
-    finds_outside c.args.kind c.args.given a _ _ _ _ (ap (λ (r : EntryAnswer). r.number) c.answer.ensures ∙ c.why_not_found-number.ensures) not c.cpu.view_is (ap (λ (r : EntryAnswer). r.place.value) c.answer.ensures)
+    finds_outside c.args.kind c.args.given a a _ _ _ (ap (λ (r : EntryAnswer). r.number) c.answer.ensures ∙ c.why_not_found-number.ensures) not refl (ap (λ (r : EntryAnswer). r.place.value) c.answer.ensures)
 
 pub returns-in-Some-clause-call : goal.returns-in-Some-clause-call
 returns-in-Some-clause-call c =
@@ -24,10 +24,10 @@ returns-in-Some-clause-call c =
     let within : a.cpu.view.begin ≢ None = subst (λ (o : OnPlainCpu). o.cpu.view.begin ≢ None) c.cpu.view_is (c.inside.ensures.0 c.if-not-inside.false) in
     finds_inside c.args.kind c.args.given a _ _ _ _ within (asks_good c.args.kind (Some c.args.given) key _ _ _ (asked c.args.kind (Some c.args.given)) refl e.1 (record {
       r = found_or (entry_seen key (Some c.in-Some.seen));
-      number = ap (λ (r : EntryAnswer). r.number) c.answer-2.ensures;
+      number = ap (λ (r : EntryAnswer). r.number) c.answer-in-Some.ensures;
       does = e.2;
       words = e.3;
-      writes = ap (λ (r : EntryAnswer). r.place.value) c.answer-2.ensures ∙ c.put.ensures.value ∙ ap (put c.args.found.value) (c.entry_by.ensures ∙ written_by c.args.kind c.args.given key c.in-Some.seen e.1);
+      writes = ap (λ (r : EntryAnswer). r.place.value) c.answer-in-Some.ensures ∙ c.put.ensures.value ∙ ap (put c.args.found.value) (c.entry_by.ensures ∙ written_by c.args.kind c.args.given key c.in-Some.seen e.1);
     }))
 
 pub returns-clause-call : goal.returns-clause-call

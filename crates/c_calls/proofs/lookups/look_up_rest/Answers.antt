@@ -1,5 +1,5 @@
 -- What the arguments ask for is looked up. Where they ask for nothing, nothing has changed.
-use Rattle.std.proofs.Common.{Some, sym, ap, subst, ◌∙◌}
+use Rattle.std.proofs.Common.{Some, refl, sym, ap, subst, ◌∙◌}
 use Rattle.passive_list.specs.Common.{OnPlainCpu}
 use Rattle.name_registry.specs.LookingUp.{LooksFast}
 use Rattle.c_handles.specs.declared.values.answer.EntryAnswer.{EntryAnswer}
