@@ -115,6 +115,27 @@ SAMPLER = Case("edits", ["edits.py", "wrong.py", "contracts.py", "kit.py", "chec
         ("a proof that can't be read", "only because a proof names", 'state="no proof: \\`search\\` did not prove it"', 'state="no proof: expected answers in ./proofs/one"')),
     *of("bin/rt", ("tests that are cut off", "NOT TRIED", "test t::three FAILED", "cut off")),
     Fault("no edits", "0 passed, 1 failed", ((EDITS, ENTRIES, ""),), ["./try", "gate"])])
+# Of each library that it is given, what reads `unknown` can't be compiled.
+COMPILER = r"""#!/bin/sh
+status=0
+for word; do
+    file=${word##*=}
+    case $word in
+        *=*/lib.rt) at=$(grep -n unknown "$file") && echo "$file:${at%%:*}:5: error[unknown-name]: what?" && status=1 ;;
+    esac
+done
+exit $status
+"""
+SECOND = "prover second in src/lib.rt: It is wrong, too.\n    right one; ==> unknown one;\n"
+FORMS = Case("check-forms", ["check-forms.py", *SAMPLER.tools], {
+    **TREE, "kit/bin/rattle": COMPILER, "crates.txt": "low: std\ncrate: low std\nprogram: crate std\n", "crates/low/src/lib.rt": "", "crates/program/src/main.rt": "",
+    "forms": f"#!/bin/sh\n{SETS}exec tools/check-forms.py\n"}, ["./forms"], [
+    *of(EDITS, ("an edit that doesn't fit", "wrong_one: stands 0 times in", ONE, "gone ==> wrong one;"), ("no reason", "wrong_one: it has no reason", "src/lib.rt: It is wrong.\n    right one", "src/lib.rt:\n    right one"),
+        ("one that can't be compiled", "crate/wrong_one: it can't be compiled: error", ONE, "right one; ==> unknown one;"),
+        ("another one of its function", "crate/second: it can't be compiled: error", ENTRIES, ENTRIES + SECOND),
+        ("one of a head", "crate/wrong_one: it can't be compiled: error", ONE, "pub fn one ==> pub fn unknown"), ("one name twice", "two edits are called second", ENTRIES, ENTRIES + SECOND * 2)),
+    *of("crates/crate/src/lib.rt", ("a file that can't be compiled", "crates/crate/src/lib.rt: it can't be compiled: error", "right caller", "right caller; unknown")),
+    *of("kit/bin/rattle", ("a compiler that fails", "it can't be compiled: ", "exit $status", "exit 2"))])
 BEGUN = Case("edits over what a check kept", SAMPLER.tools, {**TREE, f"{KEPT}/module": "kept\n"}, TRY, of(f"{KEPT}/module", ("another's", "NOT TRIED", "kept", "spoilt")))
 SAMPLES = Case("samples of edits", SAMPLER.tools, {**TREE, EDITS: MANY}, ["./gates"], [
     *of(EDITS, *((f"other {it}, proved", f"more_{it}: NOT REFUSED", f"==> wrong caller; // {it}\n", f"==> right caller; // {it}\n") for it in (0, 20, 49)))])
@@ -136,7 +157,7 @@ DRIVEN = Case("conformance test", TOOLS, KIT, ["sh", "-c", f"sed -i '{FEW}' tool
     *of("driver", ("a driver that is wrong", "FAILED  ./driver prints each report", "exec tools/other_registry.py", "tools/other_registry.py newest-slot"),
         ("one that ends with another status", "FAILED  ./driver prints each report", "exec tools/other_registry.py <\"$path\"", "tools/other_registry.py <\"$path\"; exit 1")),
     *of("tools/conformance.py", ("a rule that leaves out all scripts", "FAILED  ./driver runs most scripts", "if driver and (driver.ended or", "if True or (driver.ended or"))])
-CASES = (GATE, RUNS, SAMPLER, BEGUN, SAMPLES, CONFORMANCE, DRIVEN)
+CASES = (GATE, RUNS, SAMPLER, BEGUN, SAMPLES, FORMS, CONFORMANCE, DRIVEN)
 
 
 def write(tree, path, text):
