@@ -66,8 +66,8 @@ def write(edits, tree):
 
 
 def uncompiled(edits, tree):
-    """What the compiler refuses of these edits, by what it refuses: an edit, or a file where no edit is known to be wrong. It reads each library over the first
-    program, and what the others stand on over these."""
+    """What the compiler refuses of these edits, by what it refuses: an edit, or a file where no edit is known to be wrong. All libraries are read beneath the
+    first program, and beneath any other one its own."""
     whose, found = dict(write(edits, tree)), {}
     libraries = [it for it in listed() if root_of(it) == "src/lib.rt"]
     for at, crate in enumerate(it for it in listed() if it not in libraries):

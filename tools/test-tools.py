@@ -94,7 +94,7 @@ MANY = "".join(f"prover more_{it} in src/lib.rt: It is wrong.\n    right caller;
 SETS = f"export PATH=$PWD/bin:$PATH TOP=$PWD LOW=$PWD/{LOW} KEPT={KEPT}\n"
 TREE = {
     "crates.txt": "low: std\ncrate: low std\n", "crates/crate/src/lib.rt": SOURCE, EDITS: ENTRIES, LOW: "low\n", "bin/rt": RT, "kit/KIT-ID": "kit\n",
-    "kit/bin/rattle": RATTLE, "bin/git": '#!/bin/sh\necho "${HASH:-00000000}"\n', "try": f"#!/bin/sh\n{SETS}tools/edits.py \"$@\"; status=$?; cat checks; exit $status\n",
+    "kit/bin/rattle": RATTLE, "bin/git": '#!/bin/sh\necho "${HASH:-00000000}"\n', "try": f"#!/bin/sh\n{SETS}tools/edits.py \"$@\"; status=$?; cat checks; echo ended; exit $status\n",
     "gates": "#!/bin/sh\nfor it in 0 1 2; do\n    HASH=0000000$it ./try gate || exit 1\ndone\n",
 }
 TRY = ["./try", "crate"]
@@ -111,8 +111,13 @@ SAMPLER = Case("edits", ["edits.py", "wrong.py", "contracts.py", "kit.py", "chec
         ("an edit without its name", "neither a line KIND NAME in FILE: REASON", "gate wrong_one in", "gate in")),
     *of("kit/bin/rattle", ("code that the prover can't read", "NOT TRIED: src/lib.rt:1:1: error", "echo only=1", "echo src/lib.rt:1:1: error: what?; echo only=1"),
         ("a check that is killed", "NOT TRIED", "echo only=1", "kill -KILL $$"),
+        ("a search that is cut off", "because a search was cut off", 'state="no proof: \\`search\\` did not prove it"', 'echo "src/lib.rt:2:5: not proved: it gave up at one of its limits" && state="no proof"'),
         ("a proof that names what is gone", "only because a proof names", 'state="no proof: \\`search\\` did not prove it"', 'state="not proved"'),
         ("a proof that can't be read", "only because a proof names", 'state="no proof: \\`search\\` did not prove it"', 'state="no proof: expected answers in ./proofs/one"')),
+    # A goal in the file of its function's proof refuses an edit beside others; the tests' one fails, so that the tool ends with another status.
+    Fault("goals in files of proofs", "checked: caller one two\nended", (
+        ("kit/bin/rattle", 'state="no proof: \\`search\\` did not prove it" status=1', 'state="not proved" status=1 && echo "proofs/$name/Answers.antt:1:1: error"'),
+        (EDITS, "==> wrong three;", "==> right three; // still"))),
     *of("bin/rt", ("tests that are cut off", "NOT TRIED", "test t::three FAILED", "cut off")),
     Fault("no edits", "0 passed, 1 failed", ((EDITS, ENTRIES, ""),), ["./try", "gate"])])
 # Of each library that it is given, what reads `unknown` can't be compiled.
