@@ -70,14 +70,14 @@ def check(edits, kept):
         if misfits := [f"{it}: {why}" for it in edits if (why := apply(it, pathlib.Path(room))[1])]:
             return "\n".join(misfits)
         words = [kit() / "bin/rattle", "check", *over_libraries(crate), "--jobs", "1", "--incremental", kept, *only]
-        how = {"stdin": subprocess.DEVNULL, "stdout": subprocess.PIPE, "stderr": subprocess.STDOUT, "text": True, "errors": "replace"}
-        return subprocess.run(words, cwd=home, **how).stdout.rstrip()
+        return subprocess.run(words, cwd=home, stdin=subprocess.DEVNULL, stdout=subprocess.PIPE, stderr=subprocess.STDOUT, text=True, errors="replace").stdout.rstrip()
 
 
 def is_in(edit, told):
-    """Whether what a check told, which begins with its place, is of the edit's own function."""
+    """Whether what a check told, which begins with its place, is of the edit's own function, or of what is written of its proof."""
     function, (file, line, *_) = function_of(edit), told.split(":")
-    return function is not None and str(function.path).endswith(f"/{file}") and function.first < int(line) <= function.last + 1
+    is_in_body = function is not None and str(function.path).endswith(f"/{file}") and function.first < int(line) <= function.last + 1
+    return is_in_body or any(f"/{it.replace('::', '/')}/" in file for it in asked_for(edit))
 
 
 def judged(edit, said, is_alone):
@@ -89,9 +89,9 @@ def judged(edit, said, is_alone):
     failed = [state for state in own.values() if state != "proved" and not CALLS.match(state)]
     if not failed:
         return "", f"NOT REFUSED: {', '.join(own) or 'the whole crate'} still proved"
-    found = [goal for goal in GOAL.findall(said) if is_alone or is_in(edit, goal)]
-    found += [it for it in failed if it.startswith("no proof") and not UNSEARCHED.match(it)]
-    return (found[0][:200], "") if found else ("", "NOT TRIED: it is refused only because a proof names what it took away")
+    goals = [it for it in GOAL.findall(said) if is_alone or is_in(edit, it)] or [it for it in failed if it.startswith("no proof") and not UNSEARCHED.match(it)]
+    found = [it for it in goals if "gave up at one of its limits" not in it or "Excluded by" in edit.reason + edit.text]
+    return (found[0][:200], "") if found else ("", "NOT TRIED: it is refused only because a proof names what it took away, or because a search was cut off")
 
 
 def by_prover(edits):

@@ -56,22 +56,27 @@ def built(crate):
     return ROOT / "crates" / crate / "out/rlib" / f"{crate}.rlib"
 
 
+def root_of(crate):
+    """The file with which the crate begins, from its folder."""
+    return next(it for it in ("src/main.rt", "src/lib.rt") if (ROOT / "crates" / crate / it).is_file())
+
+
 def over_libraries(crate, folder=None):
     """What names a crate and the libraries beneath it to `rattle`: each of these is folder/NAME.rlib, or where rt makes it."""
     at = {name: folder / f"{name}.rlib" if folder else built(name) for name in below(crate)}
-    root = next(it for it in ("src/main.rt", "src/lib.rt") if (ROOT / "crates" / crate / it).is_file())
-    words = ["--crate-name", crate, root, *externs(libraries_of_kit(crate)), "-L", f"dependency={kit()}/rlibs"]
+    words = ["--crate-name", crate, root_of(crate), *externs(libraries_of_kit(crate)), "-L", f"dependency={kit()}/rlibs"]
     words += [word for name in listed()[crate] if name in at for word in ("--extern", f"{name}={at[name]}")]
     words += [word for path in dict.fromkeys(it.parent for it in at.values()) for word in ("-L", f"dependency={path}")]
     return [*words, *logic(), "--links", f"{crate}=", *(["--crate-type", "staticlib"] if ([crate, "staticlib"], listed()[crate]) in lines() else [])]
 
 
-def over_sources(crate):
-    """What names a crate to `rattle` with the sources of those beneath it, of which none is built. A static library goes as any other: the checks of
-    what it may link want built ones."""
-    libraries = {name for it in [crate, *below(crate)] for name in libraries_of_kit(it)} | {"core"}
-    words = ["--crate-name", crate, "src/lib.rt", *externs(sorted(libraries)), "-L", f"dependency={kit()}/rlibs"]
-    for name in below(crate):
+def over_sources(crate, others=None, tree=ROOT):
+    """What names a crate to `rattle` with the sources of those beneath it, or of these others, of which none is built. A static library goes as any other:
+    the checks of what it may link want built ones."""
+    names = below(crate) if others is None else others
+    libraries = {name for it in [crate, *names] for name in libraries_of_kit(it)} | {"core"}
+    words = ["--crate-name", crate, root_of(crate), *externs(sorted(libraries)), "-L", f"dependency={kit()}/rlibs"]
+    for name in names:
         uses = dict.fromkeys(["core", *libraries_of_kit(name), *(it for it in listed()[name] if it in listed())])
-        words += ["--lib", f"{name}:{','.join(uses)}={ROOT}/crates/{name}/src/lib.rt"]
+        words += ["--lib", f"{name}:{','.join(uses)}={tree}/crates/{name}/src/lib.rt"]
     return [*words, *logic(), "--links", f"{crate}="]

@@ -96,7 +96,7 @@ MANY = "".join(f"prover more_{it} in src/lib.rt: It is wrong.\n    right caller;
 SETS = f"export PATH=$PWD/bin:$PATH TOP=$PWD LOW=$PWD/{LOW} KEPT={KEPT}\n"
 TREE = {
     "crates.txt": "low: std\ncrate: low std\n", "crates/crate/src/lib.rt": SOURCE, EDITS: ENTRIES, LOW: "low\n", "bin/rt": RT, "kit/KIT-ID": "kit\n",
-    "kit/bin/rattle": RATTLE, "bin/git": '#!/bin/sh\necho "${HASH:-00000000}"\n', "try": f"#!/bin/sh\n{SETS}tools/edits.py \"$@\"; status=$?; cat checks; exit $status\n",
+    "kit/bin/rattle": RATTLE, "bin/git": '#!/bin/sh\necho "${HASH:-00000000}"\n', "try": f"#!/bin/sh\n{SETS}tools/edits.py \"$@\"; status=$?; cat checks; echo ended; exit $status\n",
     "gates": "#!/bin/sh\nfor it in 0 1 2; do\n    HASH=0000000$it ./try gate || exit 1\ndone\n",
 }
 TRY = ["./try", "crate"]
@@ -113,10 +113,36 @@ SAMPLER = Case("edits", ["edits.py", "wrong.py", "contracts.py", "kit.py", "chec
         ("an edit without its name", "neither a line KIND NAME in FILE: REASON", "gate wrong_one in", "gate in")),
     *of("kit/bin/rattle", ("code that the prover can't read", "NOT TRIED: src/lib.rt:1:1: error", "echo only=1", "echo src/lib.rt:1:1: error: what?; echo only=1"),
         ("a check that is killed", "NOT TRIED", "echo only=1", "kill -KILL $$"),
+        ("a search that is cut off", "because a search was cut off", 'state="no proof: \\`search\\` did not prove it"', 'echo "src/lib.rt:2:5: not proved: it gave up at one of its limits" && state="no proof"'),
         ("a proof that names what is gone", "only because a proof names", 'state="no proof: \\`search\\` did not prove it"', 'state="not proved"'),
         ("a proof that can't be read", "only because a proof names", 'state="no proof: \\`search\\` did not prove it"', 'state="no proof: expected answers in ./proofs/one"')),
+    # A goal in the file of its function's proof refuses an edit beside others; the tests' one fails, so that the tool ends with another status.
+    Fault("goals in files of proofs", "checked: caller one two\nended", (
+        ("kit/bin/rattle", 'state="no proof: \\`search\\` did not prove it" status=1', 'state="not proved" status=1 && echo "proofs/$name/Answers.antt:1:1: error"'),
+        (EDITS, "==> wrong three;", "==> right three; // still"))),
     *of("bin/rt", ("tests that are cut off", "NOT TRIED", "test t::three FAILED", "cut off")),
     Fault("no edits", "0 passed, 1 failed", ((EDITS, ENTRIES, ""),), ["./try", "gate"])])
+# Of each library that it is given, what reads `unknown` can't be compiled.
+COMPILER = r"""#!/bin/sh
+status=0
+for word; do
+    file=${word##*=}
+    case $word in
+        *=*/lib.rt) at=$(grep -n unknown "$file") && echo "$file:${at%%:*}:5: error[unknown-name]: what?" && status=1 ;;
+    esac
+done
+exit $status
+"""
+SECOND = "prover second in src/lib.rt: It is wrong, too.\n    right one; ==> unknown one;\n"
+FORMS = Case("check-forms", ["check-forms.py", *SAMPLER.tools], {
+    **TREE, "kit/bin/rattle": COMPILER, "crates.txt": "low: std\ncrate: low std\nprogram: crate std\n", "crates/low/src/lib.rt": "", "crates/program/src/main.rt": "",
+    "forms": f"#!/bin/sh\n{SETS}exec tools/check-forms.py\n"}, ["./forms"], [
+    *of(EDITS, ("an edit that doesn't fit", "wrong_one: stands 0 times in", ONE, "gone ==> wrong one;"), ("no reason", "wrong_one: it has no reason", "src/lib.rt: It is wrong.\n    right one", "src/lib.rt:\n    right one"),
+        ("one that can't be compiled", "crate/wrong_one: it can't be compiled: error", ONE, "right one; ==> unknown one;"),
+        ("another one of its function", "crate/second: it can't be compiled: error", ENTRIES, ENTRIES + SECOND),
+        ("one of a head", "crate/wrong_one: it can't be compiled: error", ONE, "pub fn one ==> pub fn unknown"), ("one name twice", "two edits are called second", ENTRIES, ENTRIES + SECOND * 2)),
+    *of("crates/crate/src/lib.rt", ("a file that can't be compiled", "crates/crate/src/lib.rt: it can't be compiled: error", "right caller", "right caller; unknown")),
+    *of("kit/bin/rattle", ("a compiler that fails", "it can't be compiled: ", "exit $status", "exit 2"))])
 BEGUN = Case("edits over what a check kept", SAMPLER.tools, {**TREE, f"{KEPT}/module": "kept\n"}, TRY, of(f"{KEPT}/module", ("another's", "NOT TRIED", "kept", "spoilt")))
 SAMPLES = Case("samples of edits", SAMPLER.tools, {**TREE, EDITS: MANY}, ["./gates"], [
     *of(EDITS, *((f"other {it}, proved", f"more_{it}: NOT REFUSED", f"==> wrong caller; // {it}\n", f"==> right caller; // {it}\n") for it in (0, 20, 49)))])
@@ -138,7 +164,7 @@ DRIVEN = Case("conformance test", TOOLS, KIT, ["sh", "-c", f"sed -i '{FEW}' tool
     *of("driver", ("a driver that is wrong", "FAILED  ./driver prints each report", "exec tools/other_registry.py", "tools/other_registry.py newest-slot"),
         ("one that ends with another status", "FAILED  ./driver prints each report", "exec tools/other_registry.py <\"$path\"", "tools/other_registry.py <\"$path\"; exit 1")),
     *of("tools/conformance.py", ("a rule that leaves out all scripts", "FAILED  ./driver runs most scripts", "if driver and (driver.ended or", "if True or (driver.ended or"))])
-CASES = (GATE, RUNS, SAMPLER, BEGUN, SAMPLES, CONFORMANCE, DRIVEN)
+CASES = (GATE, RUNS, SAMPLER, BEGUN, SAMPLES, FORMS, CONFORMANCE, DRIVEN)
 
 
 def write(tree, path, text):
