@@ -122,16 +122,16 @@ SAMPLER = Case("edits", ["edits.py", "wrong.py", "contracts.py", "kit.py", "chec
         (EDITS, "==> wrong three;", "==> right three; // still"))),
     *of("bin/rt", ("tests that are cut off", "NOT TRIED", "test t::three FAILED", "cut off")),
     Fault("no edits", "0 passed, 1 failed", ((EDITS, ENTRIES, ""),), ["./try", "gate"])])
-# Of each library that it is given, what reads `unknown` can't be compiled.
+# Of each library that it is given, what reads `unknown` can't be compiled, nor can what is planted in the program.
 COMPILER = r"""#!/bin/sh
-status=0
+grep -q planted src/main.rt && echo "src/main.rt:2:5: error[moved]: \`twice\`"
 for word; do
     file=${word##*=}
     case $word in
-        *=*/lib.rt) at=$(grep -n unknown "$file") && echo "$file:${at%%:*}:5: error[unknown-name]: what?" && status=1 ;;
+        *=*/lib.rt) at=$(grep -n unknown "$file") && echo "$file:${at%%:*}:5: error[unknown-name]: what?" ;;
     esac
 done
-exit $status
+exit 1
 """
 SECOND = "prover second in src/lib.rt: It is wrong, too.\n    right one; ==> unknown one;\n"
 FORMS = Case("check-forms", ["check-forms.py", *SAMPLER.tools], {
@@ -142,7 +142,7 @@ FORMS = Case("check-forms", ["check-forms.py", *SAMPLER.tools], {
         ("another one of its function", "crate/second: it can't be compiled: error", ENTRIES, ENTRIES + SECOND),
         ("one of a head", "crate/wrong_one: it can't be compiled: error", ONE, "pub fn one ==> pub fn unknown"), ("one name twice", "two edits are called second", ENTRIES, ENTRIES + SECOND * 2)),
     *of("crates/crate/src/lib.rt", ("a file that can't be compiled", "crates/crate/src/lib.rt: it can't be compiled: error", "right caller", "right caller; unknown")),
-    *of("kit/bin/rattle", ("a compiler that fails", "it can't be compiled: ", "exit $status", "exit 2"))])
+    *of("kit/bin/rattle", ("a compiler that ends too early", "crates/program/src/main.rt: it can't be compiled: ", "grep -q planted", "grep -q gone"))])
 BEGUN = Case("edits over what a check kept", SAMPLER.tools, {**TREE, f"{KEPT}/module": "kept\n"}, TRY, of(f"{KEPT}/module", ("another's", "NOT TRIED", "kept", "spoilt")))
 SAMPLES = Case("samples of edits", SAMPLER.tools, {**TREE, EDITS: MANY}, ["./gates"], [
     *of(EDITS, *((f"other {it}, proved", f"more_{it}: NOT REFUSED", f"==> wrong caller; // {it}\n", f"==> right caller; // {it}\n") for it in (0, 20, 49)))])
