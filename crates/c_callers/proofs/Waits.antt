@@ -6,7 +6,7 @@ use Rattle.registry_values.specs.Common.{number_of_refusal}
 use Rattle.cpu_words.specs.Common.{Named}
 use Rattle.passive_list.specs.Common.{OnPlainCpu, OnPlainKeeper, OnCpu, OnKeeper, HasHeardOn}
 use Rattle.name_registry.specs.Common.{HasAttachedFor, HasDetachedFor, KeepsWords, is_inside}
-use Rattle.name_registry.proofs.Worked.{prefix_on}
+use Rattle.cpu_words.proofs.shown.Seeing.{prefix_both}
 use Rattle.c_handles.specs.Bodies.{IsReferenceOf, OnLocal}
 use Rattle.c_handles.specs.declared.values.plain.TheConstants.{DONE, NOT_BEGUN}
 use Rattle.c_handles.specs.declared.values.wait.CWait.{CWait}
@@ -50,7 +50,7 @@ heard : (h : List Change) (x y : OnCpu) → HasHeardOn h x y → IsOn x y
 heard h x y had = record { knows = had.known_log; id = ap (λ (o : OnCpu). o.view.id) had.is; inside = ap (λ (o : OnCpu). is_inside o) had.is }
 
 pub both : (x m y : OnCpu) → IsOn x m → IsOn m y → IsOn x y
-both x m y a b = record { knows = prefix_on x.known_log m.known_log y.known_log a.knows b.knows; id = b.id ∙ a.id; inside = b.inside ∙ a.inside }
+both x m y a b = record { knows = prefix_both x.known_log m.known_log y.known_log a.knows b.knows; id = b.id ∙ a.id; inside = b.inside ∙ a.inside }
 
 begun_on : (k l : OnPlainKeeper) (x y : OnPlainCpu) (wait : CWait) → Begins k x l y wait → IsOn x.cpu y.cpu
 begun_on k l x y wait is = heard _ x.cpu y.cpu is.begun.hold.hears
