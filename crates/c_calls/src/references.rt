@@ -1,7 +1,7 @@
 //! Passive references, through a CPU's handle. C has a reference as a value: its entry, and the number of its CPU. The CPU judges it by its own
 //! counts, and the slot is where it looks first. So nothing that C has written there is trusted.
 
-ghost use Rattle.std.specs.Prelude.{◌≡◌, IfErr, IfOk, IsTrue, false};
+ghost use Rattle.std.specs.Prelude.{◌≡◌, ◌≢◌, IfErr, IfOk, IsTrue, None, false};
 ghost use Rattle.registry_values.specs.Common.{Answers};
 ghost use Rattle.passive_ref.specs.{HasOneLess, why_unusable};
 ghost use Rattle.c_handles.specs.declared.values.plain.TheConstants.{DONE};
@@ -11,7 +11,7 @@ ghost use Rattle.passive_list.specs.Common.{OnPlainCpu};
 ghost use Rattle.name_registry.specs.LookingUp.{HasNotGot, got_of};
 ghost use Rattle.c_handles.specs.values.Texts.{entry_again, entry_out, number_of};
 ghost use Rattle.c_calls.specs.Calls.{Through};
-ghost use Rattle.c_calls.specs.References.{Acquires, AcquiresFor, GetsFor, GetsInto, Copies, CopiesHeld, HoldsSay, Releases, ReleasesHeld, psref_of};
+ghost use Rattle.c_calls.specs.References.{Acquires, AcquiresInside, GetsFor, GetsInto, Copies, CopiesHeld, HoldsSay, Releases, ReleasesHeld, psref_of};
 
 use crate::arguments::asked;
 use crate::lookups::seen_out;
@@ -119,42 +119,81 @@ pub fn acquire(
     let Some(body) = cpu.body_mut() else {
         return entry.answer(EMPTY_HANDLE);
     };
-    if reference.entry.number != 0 {
-        return entry.answer(FULL_HANDLE);
+    if acquire_fast(body, entry.entry(), reference) {
+        return entry.answer(DONE);
     }
-    let Some(given) = entry.entry() else {
-        return entry.answer(NULL);
-    };
-    let key = match asked(kind_given(&given), Some(given.name)) {
-        Ok(key) => key,
-        Err(number) => return entry.answer(number),
-    };
-    if let Some(psref) = acquire_last(&body.words, &mut body.cpu, given.number) {
-        let id = psref.cpu();
-        let number = put_acquired(Ok(psref), given, id, reference);
-        return entry.answer(number);
-    }
-    let number = acquire_rest(body, key.kind, key.name, given, reference);
-    entry.answer(number)
+    acquire_rest(body, entry, reference)
 }
 
-/// What an acquire does that its fast path, which is of the last found entry, didn't. It stands apart, so that the fast path saves no register
-/// for it.
+/// The fast path of an acquire: of the last found entry, if nothing speaks against it. `false` says nothing, and nothing has changed.
+#[inline(always)]
+fn acquire_fast(cpu: &mut CpuBody, given: Option<CEntry>, reference: &mut CPassive) -> bool
+    ensures done { IsTrue result → Acquires given cpu.old cpu.new DONE reference.old reference.new }
+    ensures none { result ≡ false → (cpu.new ≡ cpu.old) × (reference.new ≡ reference.old) }
+{
+    let Some(entry) = given else {
+        return false;
+    };
+    if reference.entry.number != 0 {
+        return false;
+    }
+    let Ok(_key) = asked(kind_given(&entry), Some(entry.name)) else {
+        return false;
+    };
+    let Some(psref) = acquire_last(&cpu.words, &mut cpu.cpu, entry.number) else {
+        return false;
+    };
+    *reference = CPassive {
+        entry: entry_again(&entry),
+        cpu: u64::from(psref.cpu()),
+    };
+    psref.forget();
+    true
+}
+
+/// What an acquire does that its fast path didn't. It stands apart, so that the fast path saves no register for it.
 #[inline(never)]
 fn acquire_rest(
     cpu: &mut CpuBody,
-    kind: Kind,
-    name: Name,
-    entry: CEntry,
+    mut entry: GivenEntry,
     reference: &mut CPassive,
-) -> u32
-    ensures { AcquiresFor entry (key_with kind name) cpu.old cpu.new result reference.old reference.new }
+) -> GivenEntryAnswer
+    ensures given { result.entry ≡ entry }
+    ensures call { Acquires entry.entry cpu.old cpu.new result.number reference.old reference.new }
 {
+    let answer = acquire_given(cpu, entry.entry(), reference);
+    entry.answer(answer)
+}
+
+/// Acquires a reference to the entry that was given, if one was, in a section.
+#[tactic(auto, using(crate::proofs::Asked::asks_bad, crate::proofs::Asked::asks_good))]
+fn acquire_given(cpu: &mut CpuBody, given: Option<CEntry>, reference: &mut CPassive) -> u32
+    ensures { Acquires given cpu.old cpu.new result reference.old reference.new }
+{
+    if reference.entry.number != 0 {
+        return FULL_HANDLE;
+    }
+    let Some(entry) = given else {
+        return NULL;
+    };
+    let key = match asked(kind_given(&entry), Some(entry.name)) {
+        Ok(key) => key,
+        Err(number) => return number,
+    };
     if !cpu.cpu.inside() {
         return OUTSIDE;
     }
+    acquire_inside(cpu, key, entry, reference)
+}
+
+/// Acquires a reference to an entry with that key. Condition: inside.
+fn acquire_inside(cpu: &mut CpuBody, key: Key, entry: CEntry, reference: &mut CPassive) -> u32
+    requires inside { cpu.old.cpu.view.begin ≢ None }
+    ensures { AcquiresInside entry key cpu.old cpu.new result reference.old reference.new }
+{
     let id = cpu.cpu.id();
     let slot = (entry.slot % 256) as u8;
+    let (kind, name) = (key.kind, key.name);
     let made = acquire_entry(&cpu.words, &mut cpu.cpu, entry.number, slot, kind, name);
     put_acquired(made, entry, id, reference)
 }
